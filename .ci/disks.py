@@ -1,4 +1,4 @@
-"""Disks that fail when a script says so, and the cases of `.ci/journal` that are over them. A few lines of C, which the C compiler of the
+"""Disks that fail, or are slow, when a script says so, and the cases of `.ci/journal` that are over them. A few lines of C, which the C compiler of the
 system makes into a library that is loaded before all others, stand between a host and the files that have `.journal` in their names."""
 
 import errno
@@ -16,7 +16,7 @@ from pathlib import Path
 
 import hosting
 import journals
-from journals import LEFT, Client, Crowd, Room, fails, fill, read, remarks, renewed, unusable
+from journals import LEFT, Client, Crowd, Room, fails, fill, numbers, read, remarks, renewed, unusable
 from loopback import Wrong, holds, same, wait_for
 
 FAILING = r"""
@@ -27,6 +27,7 @@ FAILING = r"""
 #include <stdlib.h>
 #include <string.h>
 #include <sys/stat.h>
+#include <time.h>
 #include <unistd.h>
 
 static long writes, syncs, folders, renames;
@@ -43,6 +44,17 @@ static int is_journal(int file) {
     if (size < 0) return 0;
     path[size] = 0;
     return strstr(path, ".journal") && !strstr(path, ".lock");
+}
+
+/* A sync takes so many milliseconds where there is a file `slow` in the folder FAULTS. */
+static void nap(void) {
+    char path[4096];
+    const char *folder = getenv("FAULTS");
+    long long_ms = word("SLOW", 0);
+    struct timespec span = {long_ms / 1000, long_ms % 1000 * 1000000};
+    if (!folder || !long_ms) return;
+    snprintf(path, sizeof path, "%s/slow", folder);
+    if (access(path, F_OK) == 0) nanosleep(&span, 0);
 }
 
 /* Whether this call is one of those that fail: there is a file of this name in the folder FAULTS, or the call has such a number. */
@@ -69,6 +81,7 @@ ssize_t write(int file, const void *buffer, size_t size) {
 int fdatasync(int file) {
     static int (*next)(int);
     if (!next) next = (int (*)(int))dlsym(RTLD_NEXT, "fdatasync");
+    if (is_journal(file)) nap();
     if (!is_journal(file) || !fails(&syncs, "sync")) return next(file);
     errno = EDQUOT;
     return -1;
@@ -117,10 +130,12 @@ class Disk:
     def __exit__(self, *_):
         self.held.cleanup()
 
-    def under(self, which=None, first=0, many=1, half=False):
-        """What the environment of a host over this disk has: where `which` is given, so many of these calls fail from the first on."""
+    def under(self, which=None, first=0, many=1, half=False, slow=0):
+        """What the environment of a host over this disk has: where `which` is given, so many of these calls fail from the first on. A sync
+        takes so many seconds while the disk has the fault `slow`."""
         named = {"WHICH": which, "FIRST": str(first), "MANY": str(many)} if which else {}
-        return {**os.environ, "LD_PRELOAD": str(self.library), "FAULTS": str(self.folder), **named, **({"HALF": "1"} if half else {})}
+        return {**os.environ, "LD_PRELOAD": str(self.library), "FAULTS": str(self.folder), "SLOW": str(round(1_000 * slow)), **named,
+                **({"HALF": "1"} if half else {})}
 
     def fail(self, *faults):
         for it in faults:
@@ -513,25 +528,27 @@ def peers_wait():
 
 
 def lazy_failures():
-    """With MILLISECONDS and `never`, records are refused while the disk fails, and what was told before is in the journal behind it."""
+    """With MILLISECONDS and `never` too, what the file has not is not told: it is held while the disk fails, new records are refused, and
+    behind it all is told and in the journal."""
     for word in ("10", "never"):
         with Disk() as disk, Room() as room:
             host = room.host("--sync", word, env=disk.under())
             try:
-                sent = fill(host, 20, 100)
-                last = b"= 2000 " if word == "10" else f"{sent[-1]}\n".encode()
-                wait_for(lambda: room.file.read_bytes().splitlines(keepends=True)[-1].startswith(last), "that all is written")
+                sent, asking, late = fill(host, 20, 100), host.talk(), host.talk()
+                wait_for(lambda: word == "never" or numbers(host)["records"] == 2_000, "all is synced")
                 disk.fail("write")
                 talk = host.talk()
                 sent.append("event 0 70000 0 0 1")
-                same(talk.ask(sent[-1]), "taken 2001", "a record that nobody waits for")
+                talk.send(f"{sent[-1]}\n".encode())
                 wait_for(lambda: remarks(host), "that it fails")
-                same(talk.ask("event 0 70001 0 0 1"), "refused 14", "a record while the disk fails")
-                same(talk.ask("horizon"), "horizon 2001 0 0", "a query while the disk fails")
+                same(late.ask("event 0 70001 0 0 1"), "refused 14", "a record while the disk fails")
+                asking.send(b"horizon\n")
+                holds(is_silent(talk, 1.5) and is_silent(asking), "something past what was written is told")
                 disk.heal("write")
+                same((talk.line(), asking.line()), ("taken 2001", "horizon 2001 0 0"), "what was held")
                 wait_for(lambda: len(remarks(host)) == 2, "what is said behind it")
                 sent.append("event 0 70001 0 0 1")
-                same(wait_for(lambda: (it := talk.ask(sent[-1])) != "refused 14" and it, "a record is taken"), "taken 2002", "a record behind it")
+                same(wait_for(lambda: (it := late.ask(sent[-1])) != "refused 14" and it, "a record is taken"), "taken 2002", "a record behind it")
                 same(remarks(host), [fails(NO_SPACE), renewed(2_001)], "what is said")
                 host.finish()
             finally:
@@ -540,5 +557,26 @@ def lazy_failures():
             room.holds_log(sent)
 
 
+def lazy_syncs():
+    """With MILLISECONDS a sync that fails loses nothing either: what was written is told, and the journal is written anew."""
+    with Disk() as disk, Room() as room:
+        host = room.host("--sync", "10", env=disk.under())
+        try:
+            sent, talk = fill(host, 5, 10), host.talk()
+            wait_for(lambda: numbers(host)["records"] == 50, "all is synced")
+            disk.fail("sync")
+            sent.append("event 0 70000 0 0 1")
+            same(talk.ask(sent[-1]), "taken 51", "a record that is written")
+            wait_for(lambda: remarks(host), "that it fails")
+            same([talk.ask(it) for it in ("event 0 70001 0 0 1", "horizon")], ["refused 14", "horizon 51 0 0"], "while the disk fails")
+            disk.heal("sync")
+            wait_for(lambda: remarks(host) == [fails(NO_QUOTA), renewed(51)], "what is said")
+            same(wait_for(lambda: (it := talk.ask("event 0 70001 0 0 1")) != "refused 14" and it, "a record is taken"), "taken 52", "behind it")
+            host.finish()
+        finally:
+            host.kill()
+        room.holds_log([*sent, "event 0 70001 0 0 1"])
+
+
 CASES = [each_fails, held, failing_end, no_fresh_file, killed_while_it_writes_anew, kills_while_it_fails, no_room, full_disk, read_only,
-         stays_itself, peers_wait, lazy_failures]
+         stays_itself, peers_wait, lazy_failures, lazy_syncs]

@@ -91,6 +91,12 @@ def remarks(host):
     return [it for it in host.printed(1).splitlines() if not hosting.is_usual(it)]
 
 
+def numbers(host):
+    """What the page of metrics says of the journal, by name."""
+    _, _, page = hosting.get(host.address, "/metrics")
+    return {name: float(value) for name, value in re.findall(r"^warpd_journal_(\w+) (\S+)$", page.decode(), re.M)}
+
+
 def fails(why):
     return f"journal: it can't be written: {why}; records are refused 14 until it is written anew, which is tried each second"
 
@@ -112,9 +118,17 @@ def unusable(file, number):
     return f"journal {file}: {os.strerror(number)} (os error {number})\ncannot use the journal\n"
 
 
+def old_first(data):
+    """The first line of form 1, without its line feed, of the journal with these bytes."""
+    return data.split(b"\n", 1)[0].replace(b"warpd journal 2 ", b"warpd journal 1 ")
+
+
+OLD = "journal: it was of form 1; it was written anew, of form 2"
 LEFT = "journal: it could not be written when a host ended; it was written anew"
 NO_RECORD = "is no record of this program's form, and no sum"
 WRONG_SUM = "is not the sum of what stands before it"
+# Of a torn batch so many lines may stand behind the one that does not go on.
+MOST_TORN = 1_024
 
 
 class Read(NamedTuple):
@@ -127,23 +141,45 @@ class Read(NamedTuple):
     is_damaged: bool = False
 
 
+def is_sum(line, before, form, count):
+    """Whether this line is the sum of so many records and what has this digest."""
+    seconds = rb" (?:0|[1-9]\d*)" if form == 2 else b""
+    return re.fullmatch(rb"= %d %s%s" % (count, before.hexdigest().encode(), seconds), line) is not None
+
+
 def read(data):
     end = data.index(b"\n") + 1
     kept, records, number, digest = end, [], 2, hashlib.sha256(data[:end])
+    form = 1 if data.startswith(b"warpd journal 1 ") else 2
     while (end := data.find(b"\n", kept) + 1) > 0:
         line = data[kept:end - 1]
-        if line.startswith(b"= ") and line == b"= %d %s" % (len(records), digest.hexdigest().encode()):
+        if is_sum(line, digest, form, len(records)):
             pass
         elif RECORD.fullmatch(line.decode("latin-1")):
             records.append(line.decode())
         else:
-            rest = data[kept:]
-            later = any(b"\n" in rest[it.start(1):-1] for it in re.finditer(rb"(?:^|\n)(= )", rest))
-            is_sum = line.startswith(b"= ")
-            return Read(records, kept, number, WRONG_SUM if is_sum else NO_RECORD, is_sum or later)
+            rest = data[kept:].split(b"\n")[:-1]
+            later = len(rest) > MOST_TORN + 1 or any(it.startswith(b"= ") for it in rest)
+            return Read(records, kept, number, WRONG_SUM if line.startswith(b"= ") else NO_RECORD, later)
         digest.update(data[kept:end])
         kept, number = end, number + 1
     return Read(records, kept, number, "is torn" if kept < len(data) else "")
+
+
+def summed(first, records, every=1_024):
+    """The bytes of a journal with this first line and these records, with a sum behind each so many and at the end."""
+    digest, pieces = hashlib.sha256(), []
+
+    def add(line):
+        pieces.append(line)
+        digest.update(line)
+    add(first + b"\n")
+    seconds = b" 1700000000" * first.startswith(b"warpd journal 2 ")
+    for place, record in enumerate(records, 1):
+        add(record.encode() + b"\n")
+        if place % every == 0 or place == len(records):
+            add(b"= %d %s%s\n" % (place, digest.hexdigest().encode(), seconds))
+    return b"".join(pieces)
 
 
 def fill(host, batches, size=3):

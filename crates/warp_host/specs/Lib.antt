@@ -1,3 +1,4 @@
 pub mod Listening
 pub mod Names
 pub mod Speech
+pub mod Telling

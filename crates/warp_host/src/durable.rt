@@ -1,19 +1,52 @@
-//! How much of the log is on the disk, and how the journal's thread is woken and ended.
+//! How much of the log is in the journal's file and on the disk, how much of it may be told, and how the threads that
+//! write and sync are woken and ended.
+ghost use Rattle.std.specs.Prelude.{◌≡◌};
+ghost use Rattle.warp_host.specs.Telling.{longest};
 
+use crate::tallies::{Synced, Written};
 use std::sync::Wait;
-use std::sync::atomic::{AtomicBool, AtomicU32, Ordering};
+use std::sync::atomic::{AtomicBool, AtomicU32, AtomicU64, Ordering};
 use std::thread::Parker;
 use std::time::Duration;
+
+/// What is noted where nothing waits for the disk.
+const NOTHING_WAITS: u64 = u64::MAX;
+
+/// Of which records may be told.
+#[derive(Clone, Copy, Debug, PartialEq, Eq)]
+pub(crate) enum Tells {
+    /// Of all: there is no journal.
+    All,
+    /// Of those that were handed to the system.
+    Written,
+    /// Of those that were brought to the disk.
+    Synced,
+}
+
+/// The longest log that may be told of, where so many records are written and so many synced.
+fn longest(tells: Tells, written: u32, synced: u32) -> u32
+    ensures { result ≡ longest tells written synced }
+{
+    match tells {
+        Tells::All => u32::MAX,
+        Tells::Written => written,
+        Tells::Synced => synced,
+    }
+}
 
 /// What the threads of a host share for its journal.
 #[derive(Drop)]
 pub(crate) struct Durable {
-    // Whether nothing is told of a longer log than is on the disk.
-    is_strict: bool,
+    tells: Tells,
+    written: AtomicU32,
     synced: AtomicU32,
+    // Since when, in milliseconds of the clock, the oldest record waits that is written and not synced.
+    waits_since: AtomicU64,
     parker: Parker,
     scribe_sleeps: AtomicBool,
     is_over: AtomicBool,
+    syncer_parker: Parker,
+    is_syncer_over: AtomicBool,
     is_failing: AtomicBool,
     has_failed: AtomicBool,
     // From how many beginnings on the log was asked for.
@@ -21,14 +54,18 @@ pub(crate) struct Durable {
 }
 
 impl Durable {
-    /// So many records are on the disk; where `is_strict`, nothing is told of more.
-    pub(crate) fn new(is_strict: bool, synced: u32) -> Durable {
+    /// So many records are in the file and on the disk.
+    pub(crate) fn new(tells: Tells, count: u32) -> Durable {
         Durable {
-            is_strict,
-            synced: AtomicU32::new(synced),
+            tells,
+            written: AtomicU32::new(count),
+            synced: AtomicU32::new(count),
+            waits_since: AtomicU64::new(NOTHING_WAITS),
             parker: Parker::new(),
             scribe_sleeps: AtomicBool::new(false),
             is_over: AtomicBool::new(false),
+            syncer_parker: Parker::new(),
+            is_syncer_over: AtomicBool::new(false),
             is_failing: AtomicBool::new(false),
             has_failed: AtomicBool::new(false),
             beginnings: AtomicU32::new(0),
@@ -37,11 +74,12 @@ impl Durable {
 
     /// The longest log that may be told of now.
     pub(crate) fn limit(&self) -> u32 {
-        if self.is_strict {
-            self.synced.load(Ordering::SeqCst)
-        } else {
-            u32::MAX
-        }
+        longest(self.tells, self.written(), self.synced())
+    }
+
+    /// How many records were handed to the system; none where there is no journal.
+    pub(crate) fn written(&self) -> u32 {
+        self.written.load(Ordering::SeqCst)
     }
 
     /// How many records are on the disk; none where there is no journal.
@@ -49,9 +87,30 @@ impl Durable {
         self.synced.load(Ordering::SeqCst)
     }
 
+    /// So many records are handed to the system now.
+    pub(crate) fn note_written(&self, written: Written) {
+        self.written.store(written.count(), Ordering::SeqCst);
+    }
+
     /// So many records are on the disk now.
-    pub(crate) fn note_synced(&self, count: u32) {
-        self.synced.store(count, Ordering::SeqCst);
+    pub(crate) fn note_synced(&self, synced: Synced) {
+        self.synced.store(synced.count(), Ordering::SeqCst);
+    }
+
+    /// Since when the oldest record waits that is written and not synced, if one does.
+    pub(crate) fn note_waiting(&self, since: Option<Duration>) {
+        let millis = match since {
+            Some(since) => u64::try_from(since.as_millis()).unwrap_or(0),
+            None => NOTHING_WAITS,
+        };
+        self.waits_since.store(millis, Ordering::SeqCst);
+    }
+
+    /// For how many milliseconds the oldest record waits that is written and not synced.
+    pub(crate) fn waits(&self, now: Duration) -> u64 {
+        let since = self.waits_since.load(Ordering::SeqCst);
+        let now = u64::try_from(now.as_millis()).unwrap_or(0);
+        now.saturating_sub(since)
     }
 
     /// The journal's thread is about to sleep: what is handed to it from now on wakes it.
@@ -86,6 +145,27 @@ impl Durable {
     /// Whether the journal's thread is to end.
     pub(crate) fn is_over(&self) -> bool {
         self.is_over.load(Ordering::SeqCst)
+    }
+
+    /// Wakes the thread that syncs.
+    pub(crate) fn wake_syncer(&self) {
+        self.syncer_parker.unpark();
+    }
+
+    /// Sleeps until the thread that syncs is woken, for so long at most.
+    pub(crate) fn sleep_syncer<X: Wait>(&self, rt: &X, longest: Duration) {
+        self.syncer_parker.park_timeout(rt, longest);
+    }
+
+    /// The thread that syncs is to end.
+    pub(crate) fn end_syncer(&self) {
+        self.is_syncer_over.store(true, Ordering::SeqCst);
+        self.syncer_parker.unpark();
+    }
+
+    /// Whether the thread that syncs is to end.
+    pub(crate) fn is_syncer_over(&self) -> bool {
+        self.is_syncer_over.load(Ordering::SeqCst)
     }
 
     /// The journal can't be written now, or it can again.

@@ -22,10 +22,9 @@ use crate::pages::Pages;
 use crate::peer::Peer;
 use crate::peers::{Peers, spelled_address};
 use crate::post::Post;
-use crate::scribe::Scribe;
 use crate::serving::{FIRST_PEER, LISTENER, Serving, System, WAKER};
 use crate::steps::{self, Executed, Progress, Telling};
-use crate::writing::{Shared, durable_of, end_writing, make_scribe, start_writing};
+use crate::writing::{Shared, Writers, durable_of, end_writing, make_writers, start_writing};
 use bytes::Bytes;
 use mio::net::TcpListener;
 use mio::{Events, Interest, Poll, Waker};
@@ -379,7 +378,7 @@ fn run_beside<'s, E, X, T: Timeline + Send + Drop + 's, P: Progress<T> + Send + 
     shared: Shared<'s>,
     executor: Executor<'s, T>,
     labels: Labels,
-    scribe: Option<Scribe<'s>>,
+    writers: Option<Writers<'s>>,
     lookup: Option<Lookup<'s>>,
     serving: Serving<'_>,
     events: Events,
@@ -392,7 +391,7 @@ where
     let Ok(running) = start_executor::<E, X, T, P>(scope, rt, executor, labels) else {
         return Err(HostFault::System);
     };
-    let Ok(writing) = start_writing(scope, rt, scribe) else {
+    let Ok(writing) = start_writing(scope, rt, writers) else {
         bells.end();
         running.join(rt);
         return Err(HostFault::System);
@@ -493,7 +492,7 @@ fn make_rings<'a>(alloc: Global, durable: &'a Durable) -> Result<AllRings<'a>, A
 struct Ready<'a> {
     serving: Serving<'a>,
     ends: Ends<'a>,
-    scribe: Option<Scribe<'a>>,
+    writers: Option<Writers<'a>>,
     lookup: Option<Lookup<'a>>,
 }
 
@@ -514,7 +513,7 @@ fn make_ready<'a, X: System + RandomSource>(
         mut options,
     } = orders;
     let Shared { bells, durable } = shared;
-    let (handing, scribe) = make_scribe(alloc, options.journal.take(), shared)?;
+    let (handing, writers) = make_writers(alloc, options.journal.take(), shared)?;
     let pages = make_pages(alloc, form, served, &mut options)?;
     let common = make_common(rt, alloc, post, pages)?;
     let all = make_rings(alloc, durable)?;
@@ -548,7 +547,7 @@ fn make_ready<'a, X: System + RandomSource>(
     Ok(Ready {
         serving,
         ends,
-        scribe,
+        writers,
         lookup: lookup_if(wants_lookup, sought, found, bells),
     })
 }
@@ -591,7 +590,7 @@ fn host_over<
     let Ready {
         serving,
         ends,
-        scribe,
+        writers,
         lookup,
     } = ready;
     let Ok(events) = Events::with_capacity(alloc, EVENTS) else {
@@ -607,7 +606,7 @@ fn host_over<
     };
     thread::scope(thread::scope_env(), rt, move |scope| {
         run_beside::<_, X, T, P>(
-            scope, rt, shared, executor, labels, scribe, lookup, serving, events,
+            scope, rt, shared, executor, labels, writers, lookup, serving, events,
         )
     })
 }

@@ -36,6 +36,12 @@ pub enum FileFault {
     Open(OpenFault),
     /// The system says this.
     System(io::Error),
+    /// It stands no more under its name: it was removed, renamed or replaced.
+    Gone,
+    /// It is shorter than it was written.
+    Short,
+    /// Another file stands under its name.
+    Other,
 }
 
 impl From<AllocError> for FileFault {
@@ -50,6 +56,38 @@ impl From<io::Error> for FileFault {
     }
 }
 
+impl FileFault {
+    /// What the system says, or want of memory where it says nothing.
+    pub(crate) fn of_system(error: Option<io::Error>) -> FileFault {
+        match error {
+            Some(error) => FileFault::System(error),
+            None => FileFault::Open(OpenFault::NoMemory),
+        }
+    }
+
+    /// What is wrong with where the file stands, if that is it.
+    pub(crate) fn words(self) -> Option<&'static str> {
+        match self {
+            FileFault::Gone => Some("it was removed, renamed or replaced"),
+            FileFault::Short => Some("it was cut short"),
+            FileFault::Other => Some("another file stands under its name"),
+            FileFault::Open(_) | FileFault::System(_) => None,
+        }
+    }
+
+    /// Whether an operator would be told the same of both.
+    pub(crate) fn is_as(self, other: FileFault) -> bool {
+        match (self, other) {
+            (FileFault::System(error), FileFault::System(before)) => error.kind() == before.kind(),
+            (FileFault::Open(_), FileFault::Open(_)) => true,
+            (FileFault::Gone, FileFault::Gone) => true,
+            (FileFault::Short, FileFault::Short) => true,
+            (FileFault::Other, FileFault::Other) => true,
+            _ => false,
+        }
+    }
+}
+
 /// Tells on standard error what is wrong with the journal at this path, and gives it without what the system says.
 pub fn tell_file_fault<X: Eprint>(rt: &X, path: &str, fault: FileFault) -> OpenFault {
     match fault {
@@ -60,6 +98,11 @@ pub fn tell_file_fault<X: Eprint>(rt: &X, path: &str, fault: FileFault) -> OpenF
         FileFault::System(error) => {
             let _ = eprintln!(rt; "journal {path}: {error}");
             OpenFault::from(error)
+        }
+        FileFault::Gone | FileFault::Short | FileFault::Other => {
+            let why = fault.words().unwrap_or("");
+            let _ = eprintln!(rt; "journal {path}: {why}");
+            OpenFault::Unusable
         }
     }
 }
@@ -74,17 +117,4 @@ fn tell_open_fault<X: Eprint>(rt: &X, path: &str, fault: OpenFault) {
         OpenFault::Damaged(_) | OpenFault::Refused(_) => Ok(()),
         OpenFault::Unusable | OpenFault::NoMemory => Ok(()),
     };
-}
-
-/// Why a journal can't be written: what the system says, or `None` where no memory was to be had.
-#[derive(Clone, Copy)]
-pub(crate) struct Unwritten(pub(crate) Option<io::Error>);
-
-impl From<FileFault> for Unwritten {
-    fn from(fault: FileFault) -> Unwritten {
-        match fault {
-            FileFault::System(error) => Unwritten(Some(error)),
-            FileFault::Open(_) => Unwritten(None),
-        }
-    }
 }

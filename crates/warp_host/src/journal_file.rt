@@ -1,15 +1,21 @@
 //! The file of a journal: it is locked, read and mended before a host begins.
+ghost use Rattle.std.specs.Prelude.{◌≡◌};
+ghost use Rattle.warp_host.specs.Telling.{told_with};
 
+use crate::durable::Tells;
 use crate::fresh_file::{
-    JournalPlace, OWNER_ALONE, begin, is_left, keep_aside, real_path, sync_folder, write_again,
+    JournalPlace, OWNER_ALONE, PIECE, begin, begin_beside, id_of, is_left, keep_aside, lock_file,
+    look, real_path, sync_folder, take_place,
 };
 use crate::journal_faults::{FileFault, OpenFault, tell_file_fault};
+use crate::renewal::take_in_batches;
+use crate::scribe::second_now;
 use std::alloc::Global;
-use std::fs::{File, Files, OpenOptions, TryLockError};
-use std::io::{self, Eprint, Read, Write};
+use std::fs::{self, File, Files, OpenOptions};
+use std::io::{self, Eprint, Read, Seek, Write};
 use std::os::unix::fs::OpenOptionsExt;
-use std::time::Duration;
-use warp_journal::{Disk, Ending, Failed, Fault, Found, Journal, Keeper, NotRead, read_journal};
+use std::time::{Clock, Duration};
+use warp_journal::{Disk, Ending, Failed, Fault, Found, Journal, Keeper, NotRead, Reading};
 use warp_line::Timeline;
 use warp_record::{Record, Refusal};
 use warp_replica::{Replica, Took};
@@ -26,12 +32,22 @@ pub enum SyncWhen {
 }
 
 impl SyncWhen {
-    /// How long a record may wait to be brought to the disk by this thread.
+    /// How long a record may wait to be brought to the disk by this host.
     pub(crate) fn interval(self) -> Duration {
         match self {
             SyncWhen::Always => Duration::from_millis(0),
             SyncWhen::Every(milliseconds) => Duration::from_millis(milliseconds),
             SyncWhen::Never => Duration::MAX,
+        }
+    }
+
+    /// Of which records may be told.
+    pub(crate) fn tells(self) -> Tells
+        ensures { result ≡ told_with «self» }
+    {
+        match self {
+            SyncWhen::Always => Tells::Synced,
+            SyncWhen::Every(_) | SyncWhen::Never => Tells::Written,
         }
     }
 }
@@ -40,7 +56,9 @@ impl SyncWhen {
 #[derive(Drop)]
 pub struct JournalFile {
     pub(crate) file: File,
-    pub(crate) fault: Option<io::Error>,
+    // How many bytes it has.
+    len: u64,
+    fault: Option<io::Error>,
 }
 
 impl Disk for JournalFile {
@@ -52,7 +70,10 @@ impl Disk for JournalFile {
 
     fn append(&mut self, bytes: &[u8]) -> Result<(), Failed> {
         match self.file.write_all(bytes) {
-            Ok(()) => Ok(()),
+            Ok(()) => {
+                self.len = self.len.saturating_add(bytes.len() as u64);
+                Ok(())
+            }
             Err(error) => {
                 self.fault = Some(error);
                 Err(Failed)
@@ -72,6 +93,20 @@ impl Disk for JournalFile {
 }
 
 impl JournalFile {
+    /// This file, which has so many bytes.
+    pub(crate) fn new(file: File, len: u64) -> JournalFile {
+        JournalFile {
+            file,
+            len,
+            fault: None,
+        }
+    }
+
+    /// How many bytes it has.
+    pub(crate) fn len(&self) -> u64 {
+        self.len
+    }
+
     /// Why it could not be written, if the system said so.
     pub(crate) fn fault(&self) -> Option<io::Error> {
         self.fault
@@ -82,12 +117,24 @@ impl JournalFile {
 #[derive(Drop)]
 pub struct OpenJournal {
     pub(crate) keeper: Keeper<JournalFile>,
+    /// A second handle of its file.
+    pub(crate) handle: JournalFile,
     pub(crate) place: JournalPlace,
     pub(crate) when: SyncWhen,
     pub(crate) lock: File,
 }
 
-/// Takes the lock of the journal at this path. All paths that lead to the journal have one lock.
+/// The first lines that a journal of a program may have, without their line feeds.
+#[derive(Clone, Copy)]
+pub struct FirstLines<'a> {
+    /// That of a new journal.
+    pub new: &'a [u8],
+    /// That of one of form 1.
+    pub old: &'a [u8],
+}
+
+/// Takes the lock of the journal at this path, which stands beside it. All paths that lead to the journal, but for hard
+/// links, have one lock.
 pub fn lock_journal<F: Files<File = File>>(
     files: &F,
     alloc: Global,
@@ -99,40 +146,53 @@ pub fn lock_journal<F: Files<File = File>>(
         .write(true)
         .create(true)
         .open(files, name.as_str())?;
-    match lock.try_lock() {
-        Ok(()) => Ok(lock),
-        Err(TryLockError::WouldBlock) => Err(FileFault::Open(OpenFault::InUse)),
-        Err(TryLockError::Error(error)) => Err(FileFault::System(error)),
-    }
+    lock_file(&lock)?;
+    Ok(lock)
 }
 
-/// The number of the line, from 1, that begins behind so many bytes.
-fn line_behind(bytes: &[u8], kept: usize) -> u64 {
-    let front = bytes.get(..kept).unwrap_or(bytes);
-    let mut number = 1u64;
-    for byte in front {
-        if *byte == b'\n' {
-            number = number.saturating_add(1);
+/// Counts lines and records of a journal in front of a record.
+#[derive(Clone, Copy)]
+struct Count {
+    line: u64,
+    records: u32,
+    begins: bool,
+}
+
+impl Count {
+    /// Goes on over these bytes, up to the record at this place, from 0; whether it is reached.
+    fn reaches(&mut self, bytes: &[u8], place: u32) -> bool {
+        for byte in bytes {
+            if self.begins {
+                self.line = self.line.saturating_add(1);
+                if self.line > 1 && *byte != b'=' {
+                    if self.records == place {
+                        return true;
+                    }
+                    self.records = self.records.saturating_add(1);
+                }
+            }
+            self.begins = *byte == b'\n';
         }
+        false
     }
-    number
 }
 
 /// The number of the line, from 1, that has the record at this place, from 0.
-fn line_of_record(bytes: &[u8], place: usize) -> u64 {
-    let mut number = 0u64;
-    let mut records = 0usize;
-    for line in bytes.split(|byte| *byte == b'\n') {
-        number = number.saturating_add(1);
-        if number == 1 || line.starts_with(b"= ") {
-            continue;
-        }
-        if records == place {
+fn line_of_record(alloc: Global, file: &mut File, place: u32) -> Result<u64, FileFault> {
+    let mut piece = vec![in alloc; 0u8; PIECE]?;
+    let mut count = Count {
+        line: 0,
+        records: 0,
+        begins: true,
+    };
+    file.rewind()?;
+    for _ in 0..u64::MAX {
+        let len = file.read(&mut piece)?;
+        if len == 0 || count.reaches(piece.get(..len).unwrap_or(b""), place) {
             break;
         }
-        records = records.saturating_add(1);
     }
-    number
+    Ok(count.line)
 }
 
 /// What is said of a line that does not go on with a journal.
@@ -145,16 +205,6 @@ pub fn words_of(fault: Fault) -> &'static str {
     }
 }
 
-/// What is damaged in a journal that ends so, of which nothing may be cut off unasked: there is a later batch, or a
-/// whole line of a sum that is not of what stands before it, which no loss of power leaves.
-pub fn damage_in(ending: Ending) -> Option<Fault> {
-    match ending {
-        Ending::Damaged(fault) => Some(fault),
-        Ending::Cut(Fault::WrongSum) => Some(Fault::WrongSum),
-        Ending::Whole | Ending::Torn | Ending::Cut(_) => None,
-    }
-}
-
 /// Tells that this line is damaged, and what to do.
 fn tell_damage<X: Eprint>(rt: &X, fault: Fault, line: u64) {
     let why = words_of(fault);
@@ -164,7 +214,7 @@ fn tell_damage<X: Eprint>(rt: &X, fault: Fault, line: u64) {
 }
 
 /// Tells what is at the end of a journal that was read, and how many bytes of it are cut off.
-fn tell_ending<X: Eprint>(rt: &X, ending: Ending, line: u64, cut: usize) {
+fn tell_ending<X: Eprint>(rt: &X, ending: Ending, line: u64, cut: u64) {
     let _ = match ending {
         Ending::Whole => Ok(()),
         Ending::Torn => { eprintln!(rt; "journal: line {line} is torn; {cut} bytes are cut off") }
@@ -186,26 +236,25 @@ fn tell_opened<X: Eprint>(rt: &X, count: u32, was_there: bool) {
     };
 }
 
-/// Has the replica take these records, all of which are new to it; else the place of the first that is not, from 0.
+/// Has the replica take these records, all of which are new to it; else why it did not take one, `None` for one that it
+/// has.
 fn replay<T: Timeline>(
     alloc: Global,
     replica: &mut Replica<T>,
     records: &[Record],
-) -> Result<(), (usize, Option<Refusal>)> {
-    let mut place = 0usize;
+) -> Result<(), Option<Refusal>> {
     for record in records {
         match replica.take(alloc, record) {
             Ok(Took::New(_)) => {}
-            Ok(Took::Known(_)) => return Err((place, None)),
-            Err(refusal) => return Err((place, Some(refusal))),
+            Ok(Took::Known(_)) => return Err(None),
+            Err(refusal) => return Err(Some(refusal)),
         }
-        place = place.saturating_add(1);
     }
     Ok(())
 }
 
-/// Tells which record a replica did not take.
-fn tell_refused<X: Eprint>(rt: &X, line: u64, refusal: Option<Refusal>) {
+/// Tells which record a replica did not take, and gives why the journal can't be gone on with.
+fn tell_refused<X: Eprint>(rt: &X, line: u64, refusal: Option<Refusal>) -> FileFault {
     let _ = match refusal {
         Some(refusal) => {
             let number = refusal.number();
@@ -213,55 +262,96 @@ fn tell_refused<X: Eprint>(rt: &X, line: u64, refusal: Option<Refusal>) {
         }
         None => eprintln!(rt; "journal: the record of line {line} stands in front of it too"),
     };
+    FileFault::Open(OpenFault::Refused(line))
 }
 
-/// Reads the journal that these bytes of the file are, cuts off what is torn, and has the replica take its records. How
-/// many bytes are kept. What is cut for another reason is kept aside.
+/// The fault of a reading that ended.
+fn not_read(why: NotRead) -> FileFault {
+    match why {
+        NotRead::OtherFirst => FileFault::Open(OpenFault::OtherFirst),
+        NotRead::NoMemory => FileFault::Open(OpenFault::NoMemory),
+    }
+}
+
+/// Reads this file to its end, a piece at a time, and has the replica take its records.
+fn read_all<X: Eprint, T: Timeline>(
+    rt: &X,
+    alloc: Global,
+    file: &mut File,
+    reading: &mut Reading,
+    replica: &mut Replica<T>,
+) -> Result<(), FileFault> {
+    let mut piece = vec![in alloc; 0u8; PIECE]?;
+    let mut records = Vec::new(alloc);
+    file.rewind()?;
+    for _ in 0..u64::MAX {
+        let len = file.read(&mut piece)?;
+        if len == 0 {
+            break;
+        }
+        let bytes = piece.get(..len).unwrap_or(b"");
+        if let Err(why) = reading.take(alloc, bytes, &mut records) {
+            return Err(not_read(why));
+        }
+        match replay(alloc, replica, &records) {
+            Ok(()) => records.clear(),
+            Err(Some(Refusal::NoMemory)) => return Err(FileFault::Open(OpenFault::NoMemory)),
+            Err(refusal) => {
+                let line = line_of_record(alloc, file, replica.len())?;
+                return Err(tell_refused(rt, line, refusal));
+            }
+        }
+    }
+    Ok(())
+}
+
+/// Reads the journal in this file, which begins with this first line, cuts off what is torn, and has the replica take
+/// its records. What is cut for another reason is kept aside.
 fn go_on<X: Files<File = File> + Eprint, T: Timeline>(
     rt: &X,
     alloc: Global,
     path: &str,
-    file: &File,
-    bytes: &[u8],
+    mut file: File,
     first: &[u8],
     replica: &mut Replica<T>,
-) -> Result<(Journal, usize), FileFault> {
-    let found = match read_journal(alloc, replica.program().form(), first, bytes) {
+) -> Result<(JournalFile, Journal), FileFault> {
+    let mut reading = Reading::new(alloc, replica.program().form(), first)?;
+    read_all(rt, alloc, &mut file, &mut reading, replica)?;
+    let found = match reading.end() {
         Ok(found) => found,
-        Err(NotRead::OtherFirst) => return Err(FileFault::Open(OpenFault::OtherFirst)),
-        Err(NotRead::NoMemory) => return Err(FileFault::Open(OpenFault::NoMemory)),
+        Err(why) => return Err(not_read(why)),
     };
     let Found {
         kept,
-        records,
+        lines,
         journal,
         ending,
+        ..
     } = found;
-    let line = line_behind(bytes, kept);
-    if let Some(fault) = damage_in(ending) {
+    let line = lines.saturating_add(1);
+    if let Some(fault) = ending.damage() {
         tell_damage(rt, fault, line);
         return Err(FileFault::Open(OpenFault::Damaged(line)));
     }
-    tell_ending(rt, ending, line, bytes.len().saturating_sub(kept));
-    if let Err((place, refusal)) = replay(alloc, replica, &records) {
-        if refusal == Some(Refusal::NoMemory) {
-            return Err(FileFault::Open(OpenFault::NoMemory));
-        }
-        let line = line_of_record(bytes, place);
-        tell_refused(rt, line, refusal);
-        return Err(FileFault::Open(OpenFault::Refused(line)));
-    }
+    let cut = file.metadata()?.len().saturating_sub(kept);
+    tell_ending(rt, ending, line, cut);
     if let Ending::Cut(_) = ending {
-        keep_aside(rt, alloc, path, bytes.get(kept..).unwrap_or(b""))?;
+        keep_aside(rt, alloc, path, &mut file, kept)?;
     }
     if ending != Ending::Whole {
-        file.set_len(kept as u64)?;
+        file.set_len(kept)?;
     }
-    Ok((journal, kept))
+    Ok((JournalFile::new(file, kept), journal))
 }
 
-/// Makes the file at this path where none is there. From then on all paths that lead to it have one lock.
+/// Makes the file at this path where none is there. From then on all paths that lead to it have one lock. What is there
+/// and no file of bytes is no journal.
 fn make_file<F: Files<File = File>>(files: &F, path: &str) -> Result<(), FileFault> {
+    if let Ok(about) = fs::metadata(files, path) {
+        if !about.is_file() && !about.is_dir() {
+            return Err(FileFault::System(io::Error::from_raw_os_error(INVALID)));
+        }
+    }
     let _file = OpenOptions::new()
         .append(true)
         .create(true)
@@ -270,85 +360,179 @@ fn make_file<F: Files<File = File>>(files: &F, path: &str) -> Result<(), FileFau
     Ok(())
 }
 
-/// The file at this path, and its bytes.
-fn read_file<F: Files<File = File>>(
-    files: &F,
-    alloc: Global,
-    path: &str,
-) -> Result<(File, Vec<u8>), FileFault> {
-    let mut file = OpenOptions::new()
+/// The system's number for what can't be used so.
+const INVALID: i32 = 22;
+
+/// The file at this path, locked.
+fn open_file<F: Files<File = File>>(files: &F, path: &str) -> Result<File, FileFault> {
+    let file = OpenOptions::new()
         .read(true)
         .append(true)
         .create(true)
         .open(files, path)?;
-    let mut bytes = Vec::new(alloc);
-    file.read_to_end(&mut bytes)?;
-    Ok((file, bytes))
+    lock_file(&file)?;
+    Ok(file)
 }
 
-/// Brings what was read of a journal's file to the disk, where it may not be yet: it is told from now on. The file to go
-/// on with.
-fn keep_on<X: Files<File = File> + Eprint>(
+/// Where the journal of this file stands, that was opened by this path: no other took its place since.
+fn place_of<F: Files<File = File>>(
+    files: &F,
+    alloc: Global,
+    path: &str,
+    file: &File,
+    first: &[u8],
+) -> Result<JournalPlace, FileFault> {
+    let place = JournalPlace {
+        path: real_path(files, alloc, path)?,
+        first: Vec::from_slice(alloc, first)?,
+        id: id_of(&file.metadata()?),
+    };
+    match look(files, &place, 0) {
+        Ok(()) => Ok(place),
+        Err(FileFault::Gone) => Err(FileFault::Open(OpenFault::InUse)),
+        Err(fault) => Err(fault),
+    }
+}
+
+/// The front of this file, as much as there is room for; how many bytes that is.
+fn read_front(file: &mut File, room: &mut [u8]) -> Result<usize, FileFault> {
+    let mut len = 0usize;
+    for _ in 0..room.len() {
+        let Some(rest) = room.get_mut(len..) else {
+            break;
+        };
+        let count = file.read(rest)?;
+        if count == 0 {
+            break;
+        }
+        len = len.saturating_add(count);
+    }
+    Ok(len)
+}
+
+/// The first line of this file, if it has one of these; `None` where it has a front of one, or nothing.
+fn first_of<'a>(
+    alloc: Global,
+    file: &mut File,
+    lines: FirstLines<'a>,
+) -> Result<Option<&'a [u8]>, FileFault> {
+    let FirstLines { new, old } = lines;
+    let room = new.len().max(old.len()).saturating_add(1);
+    let mut buffer = vec![in alloc; 0u8; room]?;
+    let len = read_front(file, &mut buffer)?;
+    let front = buffer.get(..len).unwrap_or(b"");
+    if new.starts_with(front) || old.starts_with(front) {
+        return Ok(None);
+    }
+    for first in [new, old] {
+        if front.starts_with(first) && front.get(first.len()) == Some(&b'\n') {
+            return Ok(Some(first));
+        }
+    }
+    Err(FileFault::Open(OpenFault::OtherFirst))
+}
+
+/// Writes the replica's log to this journal, and brings it to the disk.
+fn write_log<T: Timeline>(
+    fresh: &mut Keeper<JournalFile>,
+    replica: &Replica<T>,
+    second: u64,
+) -> Result<(), Failed> {
+    for place in 0..replica.len() {
+        let Some(record) = replica.entry(place.saturating_add(1)) else {
+            break;
+        };
+        take_in_batches(fresh, &record, second)?;
+    }
+    fresh.sync(second)?;
+    Ok(())
+}
+
+/// Writes a journal anew, of which the replica has all records.
+fn write_again<X: Files<File = File> + Clock, T: Timeline>(
     rt: &X,
     alloc: Global,
-    file: File,
-    place: &JournalPlace,
-    kept: &[u8],
-) -> Result<JournalFile, FileFault> {
-    if is_left(rt, alloc, place)? {
-        let behind = place.first.len().saturating_add(1);
-        let lines = kept.get(behind..).unwrap_or(b"");
-        return write_again(rt, alloc, place, lines);
+    place: &mut JournalPlace,
+    replica: &Replica<T>,
+) -> Result<Keeper<JournalFile>, FileFault> {
+    let (disk, journal) = begin_beside(rt, alloc, place)?;
+    let mut fresh = Keeper::new(alloc, disk, journal);
+    if write_log(&mut fresh, replica, second_now(rt)).is_err() {
+        return Err(FileFault::of_system(fresh.disk().fault()));
     }
-    file.sync_all()?;
-    sync_folder(rt, place.path.as_str())?;
-    Ok(JournalFile { file, fault: None })
+    take_place(rt, alloc, place, fresh.disk())?;
+    Ok(fresh)
 }
 
-/// Opens the journal at this path, whose first line this is, without its line feed, or begins it; and has the replica
-/// take its records. What is torn or cut at its end is cut off. That is told on standard error, and why it can't be
-/// opened.
-pub fn open_journal<X: Files<File = File> + Eprint, T: Timeline>(
+/// Brings what was read of a journal's file to the disk, where it may not be yet: it is told from now on. What was left
+/// while the disk failed, and what is of an old form, is written anew.
+fn keep_on<X: Files<File = File> + Eprint + Clock, T: Timeline>(
+    rt: &X,
+    alloc: Global,
+    disk: JournalFile,
+    journal: Journal,
+    place: &mut JournalPlace,
+    is_old: bool,
+    replica: &Replica<T>,
+) -> Result<Keeper<JournalFile>, FileFault> {
+    let is_left = is_left(rt, alloc, place)?;
+    if is_left || is_old {
+        // What was read of the old file may not be on the disk, where a sync of it failed.
+        let keeper = write_again(rt, alloc, place, replica)?;
+        let _ = rt.eprintln(if is_left {
+            "journal: it could not be written when a host ended; it was written anew"
+        } else {
+            "journal: it was of form 1; it was written anew, of form 2"
+        });
+        return Ok(keeper);
+    }
+    disk.file.sync_all()?;
+    sync_folder(rt, place.path.as_str())?;
+    Ok(Keeper::new(alloc, disk, journal))
+}
+
+/// Opens the journal at this path, which begins with one of these lines, or begins it; and has the replica take its
+/// records. What is torn or cut at its end is cut off. That is told on standard error, and why it can't be opened.
+pub fn open_journal<X: Files<File = File> + Eprint + Clock, T: Timeline>(
     rt: &X,
     alloc: Global,
     path: &str,
     when: SyncWhen,
-    first: &[u8],
+    lines: FirstLines<'_>,
     replica: &mut Replica<T>,
 ) -> Result<OpenJournal, OpenFault> {
-    match opened(rt, alloc, path, when, first, replica) {
+    match opened(rt, alloc, path, when, lines, replica) {
         Ok(journal) => Ok(journal),
         Err(fault) => Err(tell_file_fault(rt, path, fault)),
     }
 }
 
 /// The journal at this path, as said above.
-fn opened<X: Files<File = File> + Eprint, T: Timeline>(
+fn opened<X: Files<File = File> + Eprint + Clock, T: Timeline>(
     rt: &X,
     alloc: Global,
     path: &str,
     when: SyncWhen,
-    first: &[u8],
+    lines: FirstLines<'_>,
     replica: &mut Replica<T>,
 ) -> Result<OpenJournal, FileFault> {
     make_file(rt, path)?;
     let lock = lock_journal(rt, alloc, path)?;
     // It is opened behind the lock: the file may have been written anew until then.
-    let (mut file, bytes) = read_file(rt, alloc, path)?;
-    let (journal, kept) = if first.starts_with(&bytes) {
-        (begin(alloc, &mut file, first)?, 0)
-    } else {
-        go_on(rt, alloc, path, &file, &bytes, first, replica)?
+    let mut file = open_file(rt, path)?;
+    let mut place = place_of(rt, alloc, path, &file, lines.new)?;
+    let first = first_of(alloc, &mut file, lines)?;
+    let (disk, journal) = match first {
+        Some(first) => go_on(rt, alloc, path, file, first, replica)?,
+        None => begin(alloc, file, lines.new)?,
     };
-    let place = JournalPlace {
-        path: real_path(rt, alloc, path)?,
-        first: Vec::from_slice(alloc, first)?,
-    };
-    let front = bytes.get(..kept).unwrap_or(&bytes);
-    let disk = keep_on(rt, alloc, file, &place, front)?;
-    tell_opened(rt, journal.len(), kept > 0);
+    let is_old = first == Some(lines.old);
+    let keeper = keep_on(rt, alloc, disk, journal, &mut place, is_old, replica)?;
+    let handle = JournalFile::new(keeper.disk().file.try_clone()?, 0);
+    tell_opened(rt, keeper.len(), first.is_some());
     Ok(OpenJournal {
-        keeper: Keeper::new(alloc, disk, journal),
+        keeper,
+        handle,
         place,
         when,
         lock,

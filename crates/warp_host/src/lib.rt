@@ -39,13 +39,17 @@ mod serving;
 mod socket;
 mod speech;
 mod steps;
+mod syncing;
+mod tallies;
 mod web;
 mod writing;
 
-pub use fresh_file::{FreshFiles, JournalPlace, keep_aside};
+pub use fresh_file::{FreshFiles, JournalPlace, keep_aside, lock_file};
 pub use hosting::{HostFault, Machine, Served, host};
 pub use journal_faults::{FileFault, OpenFault, tell_file_fault};
-pub use journal_file::{OpenJournal, SyncWhen, damage_in, lock_journal, open_journal, words_of};
+pub use journal_file::{
+    FirstLines, JournalFile, OpenJournal, SyncWhen, lock_journal, open_journal, words_of,
+};
 pub use names::Names;
 pub use options::{DEFAULT_CLIENTS, MOST_CLIENTS, MOST_PEERS, Options, PeerAt, may_listen};
 pub use steps::Progress;

@@ -23,6 +23,9 @@ pub(crate) struct Seen {
     pub(crate) unauthorized: u64,
     pub(crate) forbidden: u64,
     pub(crate) journal_records: u64,
+    pub(crate) journal_unsynced: u64,
+    /// For how many milliseconds the oldest of these waits.
+    pub(crate) journal_waits: u64,
     pub(crate) journal_failing: u64,
     pub(crate) histogram: Histogram,
 }
@@ -47,6 +50,8 @@ impl Seen {
             unauthorized: 0,
             forbidden: 0,
             journal_records: 0,
+            journal_unsynced: 0,
+            journal_waits: 0,
             journal_failing: 0,
             histogram: Histogram::new(),
         }
@@ -245,8 +250,8 @@ fn state(seen: &Seen) -> [Row<'static>; 6] {
     ]
 }
 
-/// The numbers of the journal: both 0 where there is none.
-fn journal(seen: &Seen) -> [Row<'static>; 2] {
+/// The numbers of the journal: each 0 where there is none.
+fn journal(seen: &Seen) -> [Row<'static>; 3] {
     [
         number(
             b"warpd_journal_records",
@@ -255,12 +260,31 @@ fn journal(seen: &Seen) -> [Row<'static>; 2] {
             seen.journal_records,
         ),
         number(
+            b"warpd_journal_unsynced_records",
+            GAUGE,
+            b"Records of the journal that are written and not on the disk.",
+            seen.journal_unsynced,
+        ),
+        number(
             b"warpd_journal_failing",
             GAUGE,
             b"Whether the journal cannot be written: 1, and records are refused.",
             seen.journal_failing,
         ),
     ]
+}
+
+/// Writes for how long the oldest record waits that is written and not on the disk.
+fn write_waits(text: &mut Vec<u8>, millis: u64) -> Result<(), AllocError> {
+    write_head(
+        text,
+        b"warpd_journal_unsynced_seconds",
+        GAUGE,
+        b"How long the oldest record waits that is written and not on the disk.",
+    )?;
+    text.extend_from_slice(b"warpd_journal_unsynced_seconds ")?;
+    write_seconds(text, millis.saturating_mul(1_000))?;
+    text.extend_from_slice(b"\n")
 }
 
 /// All that is measured, in the text format of Prometheus.
@@ -275,6 +299,7 @@ pub(crate) fn metrics_text(alloc: Global, seen: &Seen) -> Result<Vec<u8>, AllocE
     for row in &journal(seen) {
         write_row(&mut text, row)?;
     }
+    write_waits(&mut text, seen.journal_waits)?;
     text.extend_from_slice(NOT_TOLD)?;
     write_histogram(&mut text, &seen.histogram)?;
     Ok(text)

@@ -1,6 +1,7 @@
 //! What an operator is told, on standard error.
 
-use std::io::{self, Eprint};
+use crate::journal_faults::{FileFault, OpenFault};
+use std::io::Eprint;
 use warp_hub::PeerEvent;
 
 /// What begins.
@@ -100,27 +101,47 @@ pub(crate) fn tell_peer_lost<X: Eprint>(rt: &X, name: &str, was_found: bool) {
     };
 }
 
-/// Tells that the journal can't be written, and why, if the system said so.
-pub(crate) fn tell_journal_fails<X: Eprint>(rt: &X, fault: Option<io::Error>) {
+/// Tells that the journal can't be written, and why, if that is known.
+pub(crate) fn tell_journal_fails<X: Eprint>(rt: &X, fault: FileFault) {
+    if let Some(why) = fault.words() {
+        let _ = eprintln!(rt;
+            "journal: {why}; records are refused 14 until it is written anew, which is tried each second"
+        );
+        return;
+    }
     let _ = match fault {
-        Some(error) => eprintln!(rt;
+        FileFault::System(error) => eprintln!(rt;
             "journal: it can't be written: {error}; records are refused 14 until it is written anew, which is tried each second"
         ),
-        None => rt.eprintln(
+        _ => rt.eprintln(
             "journal: no memory to write it; records are refused 14 until it is written anew, which is tried each second",
         ),
     };
 }
 
 /// Tells why the journal is not written anew.
-pub(crate) fn tell_journal_not_renewed<X: Eprint>(rt: &X, fault: Option<io::Error>) {
+pub(crate) fn tell_journal_not_renewed<X: Eprint>(rt: &X, fault: FileFault) {
+    if let Some(why) = fault.words() {
+        let _ = eprintln!(rt; "journal: it can't be written anew: {why}");
+        return;
+    }
     let _ = match fault {
-        Some(error) => eprintln!(rt; "journal: it can't be written anew: {error}"),
-        None => rt.eprintln("journal: no memory to write it anew"),
+        FileFault::System(error) => eprintln!(rt; "journal: it can't be written anew: {error}"),
+        FileFault::Open(OpenFault::InUse) => {
+            rt.eprintln("journal: it can't be written anew: another process has the fresh file")
+        }
+        _ => rt.eprintln("journal: no memory to write it anew"),
     };
 }
 
 /// Tells that the journal was written anew, with so many records.
 pub(crate) fn tell_journal_renewed<X: Eprint>(rt: &X, count: u32) {
     let _ = eprintln!(rt; "journal: written anew, with {count} records");
+}
+
+/// Tells that a sync takes long, while so many records wait for the disk.
+pub(crate) fn tell_slow_sync<X: Eprint>(rt: &X, waiting: u32) {
+    let _ = eprintln!(rt;
+        "journal: the disk is slow: a sync takes more than five seconds, and {waiting} records are not on it"
+    );
 }

@@ -2,17 +2,18 @@
 //!
 //! A sync that answers well proves nothing of what failed before it, so nothing of the old file is used again. The
 //! executor hands the log from its beginning. Until the fresh file is on the disk nothing is told of more of the log than
-//! the old one was synced for, and clients' records are refused.
+//! the old one was written for, with `always` synced, and clients' records are refused.
 
 use crate::fresh_file::FreshFiles;
-use crate::journal_faults::Unwritten;
+use crate::journal_faults::FileFault;
 use crate::journal_file::JournalFile;
 use crate::operator;
-use crate::scribe::Scribe;
-use std::io::{self, Eprint, ErrorKind};
+use crate::scribe::{Scribe, second_now};
+use crate::tallies::{Synced, Written, sync};
+use std::io::Eprint;
 use std::sync::Wait;
-use std::time::Duration;
-use warp_journal::{Failed, Journal, Keeper};
+use std::time::{Clock, Duration};
+use warp_journal::{Failed, Keeper};
 use warp_record::Record;
 
 /// How long it waits before it tries, in milliseconds.
@@ -25,11 +26,19 @@ const MOMENT: u64 = 1;
 const BATCH: u32 = 1_024;
 
 impl<'a> Scribe<'a> {
+    /// Why the journal can't be written.
+    fn reason(&mut self) -> FileFault {
+        match self.fault.take() {
+            Some(fault) => fault,
+            None => FileFault::of_system(self.keeper.disk().fault()),
+        }
+    }
+
     /// Tries each second to write the journal anew, until that is done; whether it is, before this thread is to end.
-    pub(crate) fn renew<X: Wait + Eprint + FreshFiles>(&mut self, rt: &X) -> bool {
+    pub(crate) fn renew<X: Wait + Clock + Eprint + FreshFiles>(&mut self, rt: &X) -> bool {
         self.durable.note_failing(true);
         self.bells.wake_loop();
-        let mut told = self.keeper.disk().fault();
+        let mut told = self.reason();
         operator::tell_journal_fails(rt, told);
         // The fresh file stays while this goes on: a host that begins beside it trusts the old one no more.
         let _ = rt.begin_fresh(self.alloc, &self.place);
@@ -41,7 +50,7 @@ impl<'a> Scribe<'a> {
             self.durable.sleep(rt, Duration::from_millis(PAUSE));
             match self.write_anew(rt, least) {
                 Ok(()) => break,
-                Err(Unwritten(fault)) => self.tell_change(rt, &mut told, fault),
+                Err(fault) => self.tell_change(rt, &mut told, fault),
             }
         }
         self.durable.note_failing(false);
@@ -51,13 +60,8 @@ impl<'a> Scribe<'a> {
     }
 
     /// Tells why the journal was not written anew, where that is not what was told last.
-    fn tell_change<X: Eprint>(
-        &self,
-        rt: &X,
-        told: &mut Option<io::Error>,
-        fault: Option<io::Error>,
-    ) {
-        if kind_of(fault) == kind_of(*told) || self.durable.is_over() {
+    fn tell_change<X: Eprint>(&self, rt: &X, told: &mut FileFault, fault: FileFault) {
+        if fault.is_as(*told) || self.durable.is_over() {
             return;
         }
         operator::tell_journal_not_renewed(rt, fault);
@@ -66,31 +70,40 @@ impl<'a> Scribe<'a> {
 
     /// Writes the log, of which there are so many records at least, to a fresh file, brings it to the disk, and has it
     /// take the journal's place.
-    fn write_anew<X: Wait + FreshFiles>(&mut self, rt: &X, least: u32) -> Result<(), Unwritten> {
-        let disk = rt.begin_fresh(self.alloc, &self.place)?;
-        let mut fresh = Keeper::new(self.alloc, disk, Journal::begin(&self.place.first));
+    fn write_anew<X: Wait + Clock + FreshFiles>(
+        &mut self,
+        rt: &X,
+        least: u32,
+    ) -> Result<(), FileFault> {
+        let (disk, journal) = rt.begin_fresh(self.alloc, &self.place)?;
+        let handle = disk.file.try_clone()?;
+        let mut fresh = Keeper::new(self.alloc, disk, journal);
         self.beginnings = self.beginnings.wrapping_add(1);
         self.durable.ask_for_all(self.beginnings);
-        let Ok(count) = self.fill(rt, &mut fresh, least) else {
-            return Err(Unwritten(fresh.disk().fault()));
+        let Ok(synced) = self.fill(rt, &mut fresh, least) else {
+            return Err(FileFault::of_system(fresh.disk().fault()));
         };
-        rt.replace_by_fresh(self.alloc, &self.place)?;
+        rt.replace_by_fresh(self.alloc, &mut self.place, fresh.disk())?;
         self.keeper = fresh;
         self.behind_since = None;
-        self.durable.note_synced(count);
+        self.syncs.begin_anew(handle);
+        self.durable.note_waiting(None);
+        self.durable.note_written(Written::of_synced(synced));
+        self.durable.note_synced(synced);
         Ok(())
     }
 
     /// Takes the log from its beginning, of which there are so many records at least, and brings it to the disk. How
     /// many records there are then.
-    fn fill<X: Wait>(
+    fn fill<X: Wait + Clock>(
         &mut self,
         rt: &X,
         fresh: &mut Keeper<JournalFile>,
         least: u32,
-    ) -> Result<u32, Failed> {
-        self.take_from_beginning(rt, fresh, least)?;
-        fresh.sync()
+    ) -> Result<Synced, Failed> {
+        let second = second_now(rt);
+        self.take_from_beginning(rt, fresh, least, second)?;
+        sync(fresh, second)
     }
 
     /// Takes the log from its beginning, as far as it was handed, and so many records at least.
@@ -99,10 +112,11 @@ impl<'a> Scribe<'a> {
         rt: &X,
         fresh: &mut Keeper<JournalFile>,
         least: u32,
+        second: u64,
     ) -> Result<(), Failed> {
         for _ in rt.forever() {
             match self.next_handed() {
-                Some(record) => take_in_batches(fresh, &record)?,
+                Some(record) => take_in_batches(fresh, &record, second)?,
                 None if fresh.len() >= least => return Ok(()),
                 None => self.wait_for_executor(rt)?,
             }
@@ -121,17 +135,13 @@ impl<'a> Scribe<'a> {
     }
 }
 
-/// The kind of what the system says, if it says something.
-fn kind_of(fault: Option<io::Error>) -> Option<ErrorKind> {
-    match fault {
-        Some(error) => Some(error.kind()),
-        None => None,
-    }
-}
-
 /// Takes a record, and writes those that wait where they are many.
-fn take_in_batches(fresh: &mut Keeper<JournalFile>, record: &Record) -> Result<(), Failed> {
-    fresh.take(record)?;
+pub(crate) fn take_in_batches(
+    fresh: &mut Keeper<JournalFile>,
+    record: &Record,
+    second: u64,
+) -> Result<(), Failed> {
+    fresh.take(record, second)?;
     if fresh.len() % BATCH == 0 {
         fresh.write()?;
     }

@@ -1,12 +1,17 @@
-//! The thread that writes the journal: neither the loop nor the executor waits for a disk.
+//! The thread that writes the journal: neither the loop nor the executor waits for a disk, and it waits for no sync.
 //!
-//! Where the disk fails, nothing behind the last synced place is trusted: the log is written anew (`renewal`).
+//! What is handed is written at once, and may be told then, or with `always` once it is synced, for which another thread
+//! is asked. Where the disk fails, nothing of the file is trusted: the log is written anew (`renewal`).
 
 use crate::bells::Bells;
 use crate::durable::Durable;
 use crate::fresh_file::{FreshFiles, JournalPlace};
 use crate::handing::{Handed, RING_ROOM};
+use crate::journal_faults::FileFault;
 use crate::journal_file::{JournalFile, SyncWhen};
+use crate::operator;
+use crate::syncing::{SyncDone, Syncs};
+use crate::tallies::{Written, end_batch, write};
 use rtrb::Consumer;
 use std::alloc::Global;
 use std::fs::File;
@@ -19,8 +24,8 @@ use warp_record::Record;
 /// The longest sleep of the journal's thread, in milliseconds.
 const LONGEST_SLEEP: u64 = 100;
 
-/// Where nothing is brought to the disk, a sum stands behind each so many records.
-const BATCH: u32 = 1_024;
+/// The file is looked at so often where no sync ends, in milliseconds.
+const LOOK: u64 = 1_000;
 
 /// What the journal's thread holds.
 #[derive(Drop)]
@@ -30,14 +35,27 @@ pub(crate) struct Scribe<'a> {
     pub(crate) place: JournalPlace,
     pub(crate) when: SyncWhen,
     pub(crate) handed: Consumer<Handed>,
+    pub(crate) syncs: Syncs,
     pub(crate) durable: &'a Durable,
     pub(crate) bells: &'a Bells,
-    /// Since when records wait to be brought to the disk, if any do.
+    /// Since when records are written that no sync was asked for, if some are.
     pub(crate) behind_since: Option<Duration>,
+    /// When the file was looked at.
+    pub(crate) looked: Duration,
+    /// What is wrong with the file, but for what its own writing says.
+    pub(crate) fault: Option<FileFault>,
     /// How many times the log was asked for from its beginning.
     pub(crate) beginnings: u32,
     /// Held as long as this thread runs.
     pub(crate) lock: File,
+}
+
+/// The second of UTC; 0 where the clock can't be read.
+pub(crate) fn second_now<X: Clock>(rt: &X) -> u64 {
+    match rt.since_1970() {
+        Ok(since) => since.as_secs(),
+        Err(_) => 0,
+    }
 }
 
 impl<'a> Scribe<'a> {
@@ -53,65 +71,124 @@ impl<'a> Scribe<'a> {
     }
 
     /// Takes what was handed; how many records that was.
-    fn take_all(&mut self) -> Result<usize, Failed> {
+    fn take_all(&mut self, second: u64) -> Result<usize, Failed> {
         let mut count = 0usize;
         for _ in 0..RING_ROOM {
             let Some(record) = self.next_handed() else {
                 break;
             };
-            self.keeper.take(&record)?;
-            if self.when == SyncWhen::Never && self.keeper.len() % BATCH == 0 {
-                self.keeper.take_sum()?;
-            }
+            self.keeper.take(&record, second)?;
             count = count.saturating_add(1);
         }
         Ok(count)
     }
 
-    /// Brings all to the disk, and lets it be told.
-    fn sync(&mut self) -> Result<(), Failed> {
-        let count = self.keeper.sync()?;
-        self.durable.note_synced(count);
-        self.bells.wake_loop();
-        self.behind_since = None;
-        Ok(())
+    /// So many records are in the file: they may be told where that needs no sync.
+    fn let_written(&mut self, written: Written) {
+        self.durable.note_written(written);
+        if self.when != SyncWhen::Always {
+            self.bells.wake_loop();
+        }
     }
 
-    /// Whether what waits for the disk has waited long enough.
+    /// Whether what is written has waited long enough for a sync: at the end of the host at once.
     fn is_due(&self, now: Duration) -> bool {
         match self.behind_since {
-            Some(since) => now.saturating_sub(since) >= self.when.interval(),
+            Some(since) => {
+                self.durable.is_over() || now.saturating_sub(since) >= self.when.interval()
+            }
             None => false,
         }
     }
 
-    /// Writes what was handed, and brings it to the disk where that is due; whether there was anything.
-    fn work<X: Clock>(&mut self, rt: &X) -> Result<bool, Failed> {
-        let taken = self.take_all()?;
+    /// Writes what was taken, if anything was. Where a sync is due and no other is under way, that ends a batch, and a sync
+    /// is asked for.
+    fn write(&mut self, is_new: bool, second: u64, now: Duration) -> Result<(), Failed> {
+        if self.is_due(now) && self.syncs.may_ask() {
+            let written = end_batch(&mut self.keeper, second)?;
+            self.let_written(written);
+            let since = self.behind_since.take().unwrap_or(now);
+            self.syncs.ask(self.beginnings, written, now, since);
+            self.durable.wake_syncer();
+        } else if is_new {
+            let written = write(&mut self.keeper)?;
+            self.let_written(written);
+        }
+        Ok(())
+    }
+
+    /// Looks whether the file stands under its name, as long as it was written.
+    fn look<X: FreshFiles>(&mut self, rt: &X, now: Duration) -> Result<(), Failed> {
+        self.looked = now;
+        match rt.look_at(&self.place, self.keeper.disk().len()) {
+            Ok(()) => Ok(()),
+            Err(fault) => {
+                self.fault = Some(fault);
+                Err(Failed)
+            }
+        }
+    }
+
+    /// Lets what a sync brought to the disk be told, where the file still stands under its name.
+    fn take_synced<X: FreshFiles>(&mut self, rt: &X, now: Duration) -> Result<bool, Failed> {
+        let Some(SyncDone { synced, .. }) = self.syncs.answer(self.beginnings, now) else {
+            return Ok(false);
+        };
+        match synced {
+            Ok(count) => {
+                self.look(rt, now)?;
+                self.durable.note_synced(count);
+                self.bells.wake_loop();
+                Ok(true)
+            }
+            Err(error) => {
+                self.fault = Some(FileFault::of_system(error));
+                Err(Failed)
+            }
+        }
+    }
+
+    /// Looks at the file each second, and tells once that a sync takes long.
+    fn look_after<X: FreshFiles + Eprint>(&mut self, rt: &X, now: Duration) -> Result<(), Failed> {
+        if self.syncs.is_slowness_new(now) {
+            let waiting = self.durable.written().saturating_sub(self.durable.synced());
+            operator::tell_slow_sync(rt, waiting);
+        }
+        let waits = self.syncs.waits_since();
+        self.durable.note_waiting(waits.or(self.behind_since));
+        if now.saturating_sub(self.looked) >= Duration::from_millis(LOOK) {
+            self.look(rt, now)?;
+        }
+        Ok(())
+    }
+
+    /// Writes what was handed, and has it brought to the disk where that is due; whether there was anything.
+    fn work<X: Clock + FreshFiles + Eprint>(&mut self, rt: &X) -> Result<bool, Failed> {
+        let now = rt.monotonic().unwrap_or(Duration::MAX);
+        let second = second_now(rt);
+        let synced = self.take_synced(rt, now)?;
+        let taken = self.take_all(second)?;
         if taken >= RING_ROOM {
             // The executor may have found no room.
             self.bells.wake_executor();
         }
-        let now = rt.monotonic().unwrap_or(Duration::MAX);
         if taken > 0 {
             self.behind_since = Some(self.behind_since.unwrap_or(now));
         }
-        if self.when != SyncWhen::Never && self.is_due(now) {
-            self.sync()?;
-            return Ok(true);
-        }
-        if taken > 0 {
-            self.keeper.write()?;
-        }
-        Ok(taken > 0)
+        self.write(taken > 0, second, now)?;
+        self.look_after(rt, now)?;
+        Ok(synced || taken > 0)
     }
 
-    /// How long it may sleep where nothing is handed: until what waits for the disk is due.
-    fn longest_rest<X: Clock>(&self, rt: &X) -> Duration {
+    /// How long it may sleep where nothing is handed: until what waits for a sync is due.
+    fn longest_rest<X: Clock>(&mut self, rt: &X) -> Duration {
         let longest = Duration::from_millis(LONGEST_SLEEP);
         let Some(since) = self.behind_since else {
             return longest;
         };
+        if !self.syncs.may_ask() {
+            return longest;
+        }
         let interval = self.when.interval();
         match rt.monotonic() {
             Ok(now) => longest.min(since.saturating_add(interval).saturating_sub(now)),
@@ -122,7 +199,7 @@ impl<'a> Scribe<'a> {
     /// Sleeps, unless something was handed.
     fn rest<X: Wait + Clock>(&mut self, rt: &X) {
         self.durable.scribe_sleeps();
-        if !self.handed.is_empty() {
+        if !self.handed.is_empty() || self.syncs.is_answered() {
             self.durable.scribe_wakes();
             return;
         }
@@ -130,34 +207,32 @@ impl<'a> Scribe<'a> {
         self.durable.sleep(rt, longest);
     }
 
-    /// Ends the journal with a sum, and brings it to the disk.
-    fn end(&mut self) -> Result<(), Failed> {
-        if self.behind_since.is_none() {
-            return Ok(());
-        }
-        self.sync()
+    /// Whether all that was written is on the disk.
+    fn is_all_synced(&self) -> bool {
+        self.behind_since.is_none() && !self.syncs.is_under_way()
     }
 
-    /// Writes until it is to end, or the disk fails.
-    fn write_on<X: Wait + Clock>(&mut self, rt: &X) -> Result<(), Failed> {
+    /// Writes until it is to end and all is on the disk, or the disk fails.
+    fn write_on<X: Wait + Clock + FreshFiles + Eprint>(&mut self, rt: &X) -> Result<(), Failed> {
         for _ in rt.forever() {
             // What was handed before it was set is found by the work behind this look.
             let last = self.durable.is_over();
             if self.work(rt)? {
                 continue;
             }
-            if last {
+            if last && self.is_all_synced() {
                 break;
             }
             self.rest(rt);
         }
-        self.end()
+        Ok(())
     }
 
     /// Writes until it is to end. Where the disk fails that is said, and the journal is written anew.
     pub(crate) fn run<X: Wait + Clock + Eprint + FreshFiles>(mut self, rt: &X) {
         for _ in rt.forever() {
             if self.write_on(rt).is_ok() {
+                self.durable.end_syncer();
                 return;
             }
             if !self.renew(rt) {
@@ -165,6 +240,7 @@ impl<'a> Scribe<'a> {
             }
         }
         self.durable.fail();
+        self.durable.end_syncer();
         self.bells.wake_loop();
     }
 }

@@ -471,6 +471,12 @@ impl<'a> Serving<'a> {
         }
     }
 
+    /// How many records are written and not on the disk.
+    fn unsynced(&self) -> u64 {
+        let synced = self.durable.synced();
+        u64::from(self.durable.written().saturating_sub(synced))
+    }
+
     /// Notes what is measured.
     fn note_seen(&mut self) {
         let counts = self.common.post.counts();
@@ -495,6 +501,8 @@ impl<'a> Serving<'a> {
             unauthorized: self.common.pages.unauthorized,
             forbidden: self.common.pages.forbidden,
             journal_records: u64::from(self.durable.synced()),
+            journal_unsynced: self.unsynced(),
+            journal_waits: self.durable.waits(self.common.now),
             journal_failing: u64::from(self.durable.is_failing()),
             histogram: self.stopwatch.histogram,
         };

@@ -14,9 +14,9 @@ use arrayvec::ArrayString;
 use mio::net::TcpListener;
 use std::alloc::{AllocError, Global};
 use std::net::{self, IpAddr, Net, SocketAddr};
-use warp_host::{Names, OpenJournal, Options, Served, host, open_journal};
+use warp_host::{FirstLines, Names, OpenJournal, Options, Served, host, open_journal};
 use warp_hub::Facts;
-use warp_journal::first_line;
+use warp_journal::{first_line, old_first_line};
 use warp_line::Timeline;
 use warp_replica::Replica;
 use warp_session::{Sink, Source, write_all};
@@ -104,10 +104,17 @@ fn journal_of<P: Host, T: Timeline>(
         return Ok(None);
     };
     let version = version_of(replica.program().form());
-    let Ok(first) = first_line(alloc, version, fingerprint_in(identity)) else {
+    let Ok(new) = first_line(alloc, version, fingerprint_in(identity)) else {
         return Err(Outcome::Memory);
     };
-    match open_journal(rt, alloc, path.as_str(), plan.sync, &first, replica) {
+    let Ok(old) = old_first_line(alloc, version, fingerprint_in(identity)) else {
+        return Err(Outcome::Memory);
+    };
+    let lines = FirstLines {
+        new: &new,
+        old: &old,
+    };
+    match open_journal(rt, alloc, path.as_str(), plan.sync, lines, replica) {
         Ok(journal) => Ok(Some(journal)),
         Err(fault) => Err(outcome_of_journal(fault)),
     }

@@ -8,16 +8,19 @@ use crate::service::Host;
 use crate::streams::Streams;
 use std::alloc::{AllocError, Global};
 use std::fs::{File, Files, OpenOptions};
-use std::io::Read;
+use std::io::{Read, Seek};
 use warp_host::{
-    FileFault, OpenFault, damage_in, keep_aside, lock_journal, tell_file_fault, words_of,
+    FileFault, OpenFault, keep_aside, lock_file, lock_journal, tell_file_fault, words_of,
 };
-use warp_journal::{Ending, Fault, Found, NotRead, read_journal};
+use warp_journal::{Ending, Fault, Found, NotRead, Reading};
 use warp_session::{Sink, Source};
 use warp_tag::Form;
 
-/// What the first line of each journal begins with, in front of the version.
-const FRONT: &[u8] = b"warpd journal 1 ";
+/// What the first line of each journal begins with, in front of the version: of form 2, and of form 1.
+const FRONTS: [&[u8]; 2] = [b"warpd journal 2 ", b"warpd journal 1 "];
+
+/// So many bytes of a journal are read at once.
+const PIECE: usize = 65_536;
 
 /// What is told of a journal.
 #[derive(Drop)]
@@ -30,7 +33,11 @@ struct Account {
 /// A journal as it was read.
 #[derive(Drop)]
 struct Seen {
-    bytes: Vec<u8>,
+    file: File,
+    /// The first line, without its line feed.
+    first: Vec<u8>,
+    /// How many bytes it has.
+    len: u64,
     found: Found,
 }
 
@@ -86,9 +93,19 @@ fn account_of<P: Host>(rt: &P, alloc: Global, action: &str, path: &str) -> Resul
     }
 }
 
+/// What stands in this first line of a journal behind its form: the version and the fingerprint.
+fn behind_form(first: &[u8]) -> Option<&[u8]> {
+    for front in FRONTS {
+        if let Some(rest) = first.strip_prefix(front) {
+            return Some(rest);
+        }
+    }
+    None
+}
+
 /// The form of a journal's program, by the first line.
 fn form_of(first: &[u8]) -> Option<Form> {
-    let rest = first.strip_prefix(FRONT)?;
+    let rest = behind_form(first)?;
     let fingerprint = rest.get(2..)?;
     let is_digits = fingerprint.iter().all(|byte| byte.is_ascii_digit()
         || (b'a'..=b'f').contains(byte));
@@ -103,77 +120,90 @@ fn form_of(first: &[u8]) -> Option<Form> {
     }
 }
 
+/// The fault of a reading that ended.
+fn not_read(why: NotRead) -> FileFault {
+    match why {
+        NotRead::OtherFirst => FileFault::Open(OpenFault::OtherFirst),
+        NotRead::NoMemory => FileFault::Open(OpenFault::NoMemory),
+    }
+}
+
+/// The first line of this file, without its line feed.
+fn first_line_of(alloc: Global, file: &mut File) -> Result<Vec<u8>, FileFault> {
+    let mut piece = vec![in alloc; 0u8; PIECE]?;
+    let len = file.read(&mut piece)?;
+    let front = piece.get(..len).unwrap_or(b"");
+    match front.iter().position(|byte| *byte == b'\n') {
+        Some(end) => Ok(Vec::from_slice(alloc, front.get(..end).unwrap_or(b""))?),
+        None => Err(FileFault::Open(OpenFault::OtherFirst)),
+    }
+}
+
+/// Reads this file to its end, a piece at a time. How many bytes it has.
+fn read_all(alloc: Global, file: &mut File, reading: &mut Reading) -> Result<u64, FileFault> {
+    let mut piece = vec![in alloc; 0u8; PIECE]?;
+    let mut records = Vec::new(alloc);
+    let mut total = 0u64;
+    file.rewind()?;
+    for _ in 0..u64::MAX {
+        let len = file.read(&mut piece)?;
+        if len == 0 {
+            break;
+        }
+        total = total.saturating_add(len as u64);
+        records.clear();
+        if let Err(why) = reading.take(alloc, piece.get(..len).unwrap_or(b""), &mut records) {
+            return Err(not_read(why));
+        }
+    }
+    Ok(total)
+}
+
 /// Reads the journal in this file.
 fn see_all(alloc: Global, mut file: File) -> Result<Seen, FileFault> {
-    let mut bytes = Vec::new(alloc);
-    file.read_to_end(&mut bytes)?;
-    let Some(end) = bytes.iter().position(|byte| *byte == b'\n') else {
+    let first = first_line_of(alloc, &mut file)?;
+    let Some(form) = form_of(&first) else {
         return Err(FileFault::Open(OpenFault::OtherFirst));
     };
-    let first = &bytes[..end];
-    let Some(form) = form_of(first) else {
-        return Err(FileFault::Open(OpenFault::OtherFirst));
-    };
-    match read_journal(alloc, form, first, &bytes) {
-        Ok(found) => Ok(Seen { bytes, found }),
-        Err(NotRead::OtherFirst) => Err(FileFault::Open(OpenFault::OtherFirst)),
-        Err(NotRead::NoMemory) => Err(FileFault::Open(OpenFault::NoMemory)),
+    let mut reading = Reading::new(alloc, form, &first)?;
+    let len = read_all(alloc, &mut file, &mut reading)?;
+    match reading.end() {
+        Ok(found) => Ok(Seen {
+            file,
+            first,
+            len,
+            found,
+        }),
+        Err(why) => Err(not_read(why)),
     }
 }
 
 impl Seen {
-    /// The number of the line, from 1, behind those that are kept.
-    fn line(&self) -> u64 {
-        let mut number = 1u64;
-        for byte in self.bytes.get(..self.found.kept).unwrap_or(b"") {
-            if *byte == b'\n' {
-                number = number.saturating_add(1);
-            }
-        }
-        number
-    }
-
-    /// How many bytes stand behind those that are kept.
-    fn cut(&self) -> usize {
-        self.bytes.len().saturating_sub(self.found.kept)
-    }
-
-    /// How many bytes stay where the journal is repaired: those in front of the damage; and where a sum does not fit,
-    /// those up to the last one that does, since what it is over may be what was changed.
-    fn sound(&self) -> usize {
-        match damage_in(self.found.ending) {
-            Some(Fault::WrongSum) => end_of_sums(self.kept()),
-            _ => self.found.kept,
-        }
-    }
-
-    /// What is kept in front of the damage.
-    fn kept(&self) -> &[u8] {
-        self.bytes.get(..self.found.kept).unwrap_or(&self.bytes)
-    }
-
     /// The first line's version and fingerprint, and how many records there are.
     fn head(&self, alloc: Global) -> Result<String, AllocError> {
-        let front = self.bytes.get(FRONT.len()..).unwrap_or(b"");
-        let version = ascii(alloc, front.get(..1).unwrap_or(b""))?;
-        let fingerprint = ascii(alloc, front.get(2..66).unwrap_or(b""))?;
-        let count = self.found.records.len();
+        let rest = behind_form(&self.first).unwrap_or(b"");
+        let version = ascii(alloc, rest.get(..1).unwrap_or(b""))?;
+        let fingerprint = ascii(alloc, rest.get(2..66).unwrap_or(b""))?;
+        let count = self.found.journal.len();
         let version = version.as_str();
         let fingerprint = fingerprint.as_str();
         format!(in alloc; "version {version}\nfingerprint {fingerprint}\nrecords {count}\n")
     }
 
+    /// The number of the line, from 1, behind those that are kept.
+    fn line(&self) -> u64 {
+        self.found.lines.saturating_add(1)
+    }
+
     /// What stands behind what is kept, in a line.
     fn ending(&self, alloc: Global) -> Result<String, AllocError> {
         let line = self.line();
-        let cut = self.cut();
-        if let Some(fault) = damage_in(self.found.ending) {
-            return told(alloc, "damaged", line, fault, cut);
-        }
+        let cut = self.len.saturating_sub(self.found.kept);
         match self.found.ending {
             Ending::Whole => String::from_str(alloc, "whole\n"),
             Ending::Torn => format!(in alloc; "torn: line {line} is not whole; {cut} bytes\n"),
-            Ending::Cut(fault) | Ending::Damaged(fault) => told(alloc, "cut", line, fault, cut),
+            Ending::Cut(fault) => told(alloc, "cut", line, fault, cut),
+            Ending::Damaged(fault) => told(alloc, "damaged", line, fault, cut),
         }
     }
 }
@@ -184,7 +214,7 @@ fn told(
     word: &str,
     line: u64,
     fault: Fault,
-    cut: usize,
+    cut: u64,
 ) -> Result<String, AllocError> {
     let why = words_of(fault);
     format!(in alloc; "{word}: line {line} {why}; {cut} bytes\n")
@@ -205,7 +235,7 @@ fn checked<P: Host>(rt: &P, alloc: Global, path: &str) -> Result<Account, FileFa
     let seen = see_all(alloc, file)?;
     let mut text = seen.head(alloc)?;
     text.push_str(seen.ending(alloc)?.as_str())?;
-    let damaged_at = match damage_in(seen.found.ending) {
+    let damaged_at = match seen.found.ending.damage() {
         Some(_) => Some(seen.line()),
         None => None,
     };
@@ -215,16 +245,17 @@ fn checked<P: Host>(rt: &P, alloc: Global, path: &str) -> Result<Account, FileFa
 /// Keeps what is whole in front of the journal at this path, moves the rest to a file beside it, and tells so.
 fn repaired<P: Host>(rt: &P, alloc: Global, path: &str) -> Result<Account, FileFault> {
     let _lock = lock_journal(rt, alloc, path)?;
-    let file = File::open(rt, path)?;
-    let seen = see_all(alloc, file)?;
+    let file = OpenOptions::new().read(true).write(true).open(rt, path)?;
+    lock_file(&file)?;
+    let mut seen = see_all(alloc, file)?;
     let mut text = seen.head(alloc)?;
     text.push_str(seen.ending(alloc)?.as_str())?;
-    let sound = seen.sound();
-    let cut = seen.bytes.len().saturating_sub(sound);
+    let sound = seen.found.sound();
+    let cut = seen.len.saturating_sub(sound.bytes);
     if cut > 0 {
-        let aside = move_rest(rt, alloc, path, &seen.bytes, sound)?;
+        let aside = move_rest(rt, alloc, path, &mut seen.file, sound.bytes)?;
         let name = aside.as_str();
-        let records = records_in(seen.bytes.get(..sound).unwrap_or(b""));
+        let records = sound.records;
         text.push_str(format!(in alloc;
             "moved {cut} bytes to {name}\nkept {records} records\n"
         )?.as_str())?;
@@ -235,42 +266,17 @@ fn repaired<P: Host>(rt: &P, alloc: Global, path: &str) -> Result<Account, FileF
     })
 }
 
-/// Moves what stands behind so many bytes of the journal at this path to the file beside it: it is on the disk there
-/// before it goes. That file's path.
+/// Moves what stands behind so many bytes of this file, the journal at this path, to the file beside it: it is on the
+/// disk there before it goes. That file's path.
 fn move_rest<F: Files<File = File>>(
     files: &F,
     alloc: Global,
     path: &str,
-    bytes: &[u8],
-    sound: usize,
+    file: &mut File,
+    sound: u64,
 ) -> Result<String, FileFault> {
-    let aside = keep_aside(files, alloc, path, bytes.get(sound..).unwrap_or(b""))?;
-    let file = OpenOptions::new().write(true).open(files, path)?;
-    file.set_len(sound as u64)?;
+    let aside = keep_aside(files, alloc, path, file, sound)?;
+    file.set_len(sound)?;
     file.sync_all()?;
     Ok(aside)
-}
-
-/// The end of the last sum in these whole lines; where there is none, of the first line.
-fn end_of_sums(lines: &[u8]) -> usize {
-    let mut end = 0usize;
-    let mut at = 0usize;
-    for line in lines.split(|byte| *byte == b'\n') {
-        at = at.saturating_add(line.len()).saturating_add(1);
-        if end == 0 || line.starts_with(b"= ") {
-            end = at.min(lines.len());
-        }
-    }
-    end
-}
-
-/// How many records these whole lines of a journal have behind the first.
-fn records_in(lines: &[u8]) -> usize {
-    let mut records = 0usize;
-    for line in lines.split(|byte| *byte == b'\n') {
-        if !line.is_empty() && !line.starts_with(b"= ") {
-            records = records.saturating_add(1);
-        }
-    }
-    records.saturating_sub(1)
 }

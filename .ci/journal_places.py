@@ -1,0 +1,122 @@
+"""The cases of `.ci/journal` over where a journal stands: other names of one file, a lock that is gone, and a file that is removed, renamed, cut
+short or replaced while a host writes it."""
+
+import os
+import subprocess
+from pathlib import Path
+
+import hosting
+import journals
+from disks import is_silent
+from journals import Room, fill, in_use, remarks, renewed
+from loopback import holds, same, wait_for
+
+GONE, SHORT = "it was removed, renamed or replaced", "it was cut short"
+ANOTHER = "journal: it can't be written anew: another file stands under its name"
+
+
+def lost(why):
+    return f"journal: {why}; records are refused 14 until it is written anew, which is tried each second"
+
+
+def one_host():
+    """By a hard link, and with the lock's file removed, a second host is refused, and so is a repair; also behind a journal that was written
+    anew, and by a link to the old file of one that was."""
+    with Room() as room, room.host() as host:
+        sent = fill(host, 2)
+        hard, lock = Path(room.folder.name, "hard.journal"), Path(f"{room.file}.lock")
+        hard.hardlink_to(room.file)
+        for _ in range(2):
+            lock.unlink()
+            for file in (hard, room.file):
+                same(room.refused(6, in_use(file), file=file), in_use(file), "what is said")
+                room.ended("journal", "repair", file, status=6, error=in_use(file))
+            room.checked(len(sent))
+            hard.unlink()
+            room.file.unlink()
+            wait_for(lambda: room.file.exists() and len(remarks(host)) % 2 == 0, "the journal written anew")
+            hard.hardlink_to(room.file)
+        sent += ["event 0 99 0 0 1"]
+        same(host.talk().ask(sent[-1]), f"taken {len(sent)}", "a record of the first host")
+        same(remarks(host), [lost(GONE), renewed(6)] * 2, "what is said")
+        same(room.records(), sent, "the records of the file")
+
+
+def remove(file):
+    file.unlink()
+
+
+def rename(file):
+    file.rename(f"{file}.old")
+
+
+def cut_short(file):
+    os.truncate(file, 100)
+
+
+def empty(file):
+    file.write_bytes(b"")
+
+
+def moved():
+    """A journal that is removed, renamed or cut short is a disk that fails: it is told within some seconds, also where nothing is sent, and
+    written anew from the log; with `always` nothing is told that is in no file of that name."""
+    for how, why in ((remove, GONE), (rename, GONE), (cut_short, SHORT), (empty, SHORT)):
+        for words in ((), ("--sync", "10"), ("--sync", "never")):
+            with Room() as room:
+                host = room.host(*words)
+                try:
+                    sent = fill(host, 3)
+                    how(room.file)
+                    if words:
+                        wait_for(lambda: len(remarks(host)) == 2, f"what is said of {how.__name__} with {words}", 30)
+                    sent.append("event 0 99 0 0 1")
+                    talk = host.talk()
+                    answer = wait_for(lambda: (it := talk.ask(sent[-1])) != "refused 14" and it, "a record is taken", 30)
+                    same(answer, "taken 10", "a record")
+                    wait_for(lambda: len(remarks(host)) == 2, f"what is said of {how.__name__} with {words}", 30)
+                    same(remarks(host)[0], lost(why), "what is said")
+                    holds(remarks(host)[1] in (renewed(9), renewed(10)), f"what is said: {remarks(host)}")
+                    same(room.records(), sent, "the records of the file")
+                    host.finish()
+                finally:
+                    host.kill()
+                room.checked(10)
+                room.holds_log(sent)
+
+
+def replaced():
+    """Where another file is put in its place, that stays as it is: the journal is written anew when it is gone."""
+    with Room() as room:
+        other = Path(room.folder.name, "other")
+        other.write_bytes(b"what somebody put there\n")
+        host = room.host()
+        try:
+            sent = fill(host, 3)
+            other.rename(room.file)
+            talk = host.talk()
+            wait_for(lambda: remarks(host) == [lost(GONE), ANOTHER], "what is said", 30)
+            talk.send(b"event 0 98 0 0 1\n")
+            same(talk.line(), "refused 14", "a record meanwhile")
+            same(room.file.read_bytes(), b"what somebody put there\n", "another's file")
+            holds(is_silent(talk), "nothing more is told")
+            room.file.unlink()
+            wait_for(lambda: remarks(host) == [lost(GONE), ANOTHER, renewed(9)], "what is said", 30)
+            host.finish()
+        finally:
+            host.kill()
+        room.holds_log(sent)
+
+
+def no_file():
+    """What is there and is no file of bytes is no journal: a pipe, a device."""
+    with Room() as room:
+        pipe = Path(room.folder.name, "pipe")
+        os.mkfifo(pipe)
+        for path in (pipe, "/dev/null", "/dev/full"):
+            words = [journals.PROGRAM, "host", room.program, "--listen", f"{hosting.HOST}:0", "--journal", path]
+            said = subprocess.run(words, stdin=subprocess.DEVNULL, capture_output=True, text=True, timeout=60)
+            same((said.returncode, said.stdout, said.stderr), (4, "", journals.unusable(path, 22)), f"a start over {path}")
+
+
+CASES = [one_host, moved, replaced, no_file]
