@@ -21,7 +21,7 @@ VISITORS, VISITING = 1_000, 60
 MOST_EVENTS = 90_000
 MOST_ROUNDS = 4
 WORDS = {"var 0": "var", "vars": "vars", "releases": "releases", "nonsense": "refused", "horizon": "horizon", "program": "program",
-         "event 1 0 0 0 0": "refused"}
+         "counts 0": "counts", "reached 0": "reached", "event 1 0 0 0 0": "refused"}
 RESET = b"\1\0\0\0\0\0\0\0"
 
 

@@ -21,11 +21,11 @@ AT_ONCE, WORKERS, MOST = 32, 4, 4_000
 WAIT = 60
 LINES = {"event 0 5 0 0 3": ("taken 1", "known 1"), "var 0": (), "vars": (), "names": (), "program": (), "watch log 1": ("watching 1",),
          "watch released 0": (), "watch vars": (), "watch horizon": (), "event 1 2 0 1 4": (), "announce 0 50 0 1 0": (), "announce 1 50 0 1 0": (),
-         "releases": (), "release 0": (), "board": (), "nonsense": ("refused 1",), "collect": (), "var 1": ("refused 6",)}
+         "releases": (), "release 0": (), "counts 0": (), "reached 1": (), "board": (), "nonsense": ("refused 1",), "collect": (), "var 1": ("refused 6",)}
 # What the reply to a line of this word begins with.
 WORDS = {"event": ("taken", "known"), "announce": ("taken", "known"), "var": ("var",), "vars": ("vars",), "names": ("names",),
          "program": ("program",), "watch": ("watching",), "releases": ("releases",), "release": ("release", "none"), "board": ("board",),
-         "collect": ("collected",)}
+         "collect": ("collected",), "counts": ("counts",), "reached": ("reached",)}
 
 
 def refusing(folder):

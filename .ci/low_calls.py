@@ -246,7 +246,7 @@ def watching():
              Step(["shown 1 false"] * 2, ["update"] * 2, 2, (0,), [[NO_MEMORY, "shown 1 false"]])]
     for question, said, next in (
         ("vars", ["vars 3 3"], 0), ("releases", ["releases 3 1 0"], 0), ("release 0", ["release 3 5 0 0 3"], 0), ("horizon", ["horizon 3 7 0"], 0),
-        ("breaches", ["breach 3"], 0), ("log 1 2", [f"log 1 {line}"], 2), ("released 0 0", ["released 0 5 0 0 3"], 1),
+        ("breaches", ["breach 3"], 0), ("counts 0", ["counts 3 0 1 0 5 0"], 0), ("reached 1", ["reached 3 1 7 0"], 0), ("log 1 2", [f"log 1 {line}"], 2), ("released 0 0", ["released 0 5 0 0 3"], 1),
     ):
         steps.append(Step([*said, f"next {next} of 3, false"], [question], otherwise=[[NO_MEMORY]]))
     return Calls("what watchers are told", "watches", "twice", steps)

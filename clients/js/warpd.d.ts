@@ -44,6 +44,15 @@ export interface Counted {
   count: number
 }
 
+/** How many names (origin and tag) of an origin have an event, how many a withdrawal, and the greatest tag of both. */
+export interface Counts {
+  log: number
+  origin: number
+  events: number
+  withdrawn: number
+  last: Tag
+}
+
 export interface Releases extends Counted {
   frozen: boolean
 }
@@ -86,6 +95,7 @@ export interface Pushes {
 
 /** A line that was refused: its number, what that means, and the line. Nothing was changed. */
 export class Refused extends Error {
+  constructor(number: number, line: string)
   readonly number: number
   readonly meaning: string
   readonly line: string
@@ -152,6 +162,9 @@ export class Client {
   release(index: number): Promise<({ log: number } & Row) | null>
   breach(origin: number): Promise<{ log: number; broken: boolean }>
   lost(): Promise<Counted>
+  counts(origin: number): Promise<Counts>
+  /** Up to which tag the origin's announcements are reached. */
+  reached(origin: number): Promise<{ log: number; origin: number } & Tag>
   log(place: number): Promise<{ log: number; record: LogRecord } | null>
   collect(): Promise<{ log: number }>
   program(): Promise<{ version: number; fingerprint: string }>
@@ -172,8 +185,14 @@ export class Client {
  */
 export class Announcer {
   constructor(client: Client, origin: number)
+  readonly client: Client
+  readonly origin: number
+  /** Resolved once it knows what the host has of the origin. */
+  readonly began: Promise<void>
   /** The greatest tag that was announced, or is about to be. */
   readonly announced: Tag
+  /** The greatest tag of the origin's names that the host has, once it `began`; null where there is none. */
+  readonly last: Tag | null
   event(input: string | number, event: { time: number; value: GivenValue; micro?: number }): Promise<Taken>
   withdraw(tag: { time: number; micro?: number }): Promise<Taken>
   announce(tag: { time: number; micro?: number }): Promise<Taken>

@@ -30,6 +30,46 @@ const MEANINGS = {
 
 const FIRST_PAUSE = 100
 const LONGEST_PAUSE = 5_000
+// A host takes messages of 16 KiB at most.
+const MOST_MESSAGE = 16_000
+// So many lines of a log are asked for before their answers are awaited.
+const WINDOW = 1_024
+
+/** What waits, in order: what comes last and what goes first cost the same at any length. */
+class Queue {
+  #items
+  #first = 0
+
+  constructor(items = []) {
+    this.#items = items
+  }
+
+  get length() {
+    return this.#items.length - this.#first
+  }
+
+  push(item) {
+    this.#items.push(item)
+  }
+
+  /** The first one, which goes; undefined where there is none. What went is let go of where it is half of all. */
+  shift() {
+    const item = this.#items[this.#first]
+    if (this.length) this.#first += 1
+    if (2 * this.#first >= this.#items.length) {
+      this.#items.splice(0, this.#first)
+      this.#first = 0
+    }
+    return item
+  }
+
+  /** All of them, which go. */
+  take() {
+    const all = this.#items.splice(0).slice(this.#first)
+    this.#first = 0
+    return all
+  }
+}
 
 /** A line that was refused: its number, what that means, and the line. Nothing was changed. */
 export class Refused extends Error {
@@ -123,6 +163,11 @@ const READERS = {
   watching: ([count]) => ({ count: Number(count) }),
   program: ([version, fingerprint]) => ({ version: Number(version), fingerprint }),
   may: words => ({ may: words.join(" ") }),
+  counts: words => {
+    const [log, origin, events, withdrawn, ...last] = words.map(Number)
+    return { log, origin, events, withdrawn, last: tagged(...last) }
+  },
+  reached: ([log, origin, ...tag]) => ({ log: Number(log), origin: Number(origin), ...tagged(...tag) }),
 }
 
 function rowOf([time, micro, output, value]) {
@@ -173,6 +218,8 @@ const PUSHES = {
   skipped: ([count]) => ({ skipped: Number(count) }),
 }
 
+// Of these the newest push stands for those before it.
+const STATES = new Set(["vars", "horizon", "breach"])
 // What is watched, where a push has another name.
 const SUBJECT_OF = { frozen: "released", step: "steps", skipped: "steps" }
 const SUBJECTS = [...new Set(Object.keys(PUSHES).map(it => SUBJECT_OF[it] ?? it))]
@@ -181,8 +228,8 @@ const SUBJECTS = [...new Set(Object.keys(PUSHES).map(it => SUBJECT_OF[it] ?? it)
 class Watch {
   #client
   #callback
-  #waiting = []
-  #wanted = []
+  #waiting = new Queue()
+  #wanted = new Queue()
   #isOver = false
 
   constructor(client, what, next, callback) {
@@ -205,7 +252,13 @@ class Watch {
     this.#callback?.(value)
     const wanted = this.#wanted.shift()
     if (wanted) wanted({ value, done: false })
-    else if (!this.#callback) this.#waiting.push(value)
+    else if (!this.#callback) this.#keep(value)
+  }
+
+  /** What nobody waits for is kept until it is asked for: of a state the newest alone. */
+  #keep(value) {
+    if (STATES.has(this.what)) this.#waiting.take()
+    this.#waiting.push(value)
   }
 
   /** Watches no more. */
@@ -218,7 +271,7 @@ class Watch {
   /** No more is pushed. */
   end() {
     this.#isOver = true
-    for (const wanted of this.#wanted.splice(0)) wanted({ value: undefined, done: true })
+    for (const wanted of this.#wanted.take()) wanted({ value: undefined, done: true })
   }
 
   [Symbol.asyncIterator]() {
@@ -256,7 +309,7 @@ export class Client {
   #pause = FIRST_PAUSE
   #timer
   #isOpened = false
-  #asked = []
+  #asked = new Queue()
   #watches = new Map()
   #isReady
   #isNotReady
@@ -315,7 +368,7 @@ export class Client {
     if (this.#token !== undefined) lines.unshift(`token ${this.#token}`)
     const opening = lines.map(line => new Asked(line))
     for (const asked of opening) asked.isOfOpening = true
-    this.#asked = [...opening, ...this.#asked.filter(it => !it.isOfOpening)]
+    this.#asked = new Queue([...opening, ...this.#asked.take().filter(it => !it.isOfOpening)])
     this.#send(opening)
     Promise.all(opening.map(it => it.answer)).then(answers => {
       if (this.#socket === socket && this.state !== "closed") this.#greeted(...answers.slice(-2))
@@ -329,19 +382,30 @@ export class Client {
       return this.#finish(new Ended(`the host has another program now, ${fingerprint}: it had ${this.#fingerprint}`))
     }
     this.names = names
-    const begun = new Set(this.#asked.map(it => it.watch))
+    const asked = this.#asked.take()
+    const begun = new Set(asked.map(it => it.watch))
     const missing = [...this.#watches.values()].filter(it => !begun.has(it)).map(it => new Asked(it.line))
-    for (const asked of this.#asked) if (asked.watch) asked.line = asked.watch.line
-    this.#asked.unshift(...missing)
+    for (const it of asked) if (it.watch) it.line = it.watch.line
+    const all = [...missing, ...asked]
+    this.#asked = new Queue(all)
     this.#isOpened = true
-    this.#send(this.#asked)
+    this.#send(all)
     this.#turn("open")
     this.#isReady(this)
     if (this.connections > 1) for (const callback of this.#reopened) callback()
   }
 
+  /** Sends lines, in as few messages as the host takes. */
   #send(asked) {
-    if (asked.length) this.#socket.send(asked.map(it => it.line).join("\n"))
+    let text = ""
+    for (const { line } of asked) {
+      if (text.length + line.length >= MOST_MESSAGE) {
+        this.#socket.send(text)
+        text = ""
+      }
+      text += `${line}\n`
+    }
+    if (text) this.#socket.send(text)
   }
 
   #closed() {
@@ -375,7 +439,7 @@ export class Client {
     this.error ??= error
     this.#turn("closed")
     this.#isNotReady(error)
-    for (const asked of this.#asked.splice(0)) asked.reject(error)
+    for (const asked of this.#asked.take()) asked.reject(error)
     for (const watch of this.#watches.values()) watch.end()
     this.#watches.clear()
     this.#socket.close()
@@ -497,6 +561,16 @@ export class Client {
     return this.ask("lost")
   }
 
+  /** How many names of an origin have an event, how many a withdrawal, and the greatest tag of both. */
+  counts(origin) {
+    return this.ask(`counts ${origin}`)
+  }
+
+  /** Up to which tag the origin's announcements are reached. */
+  reached(origin) {
+    return this.ask(`reached ${origin}`)
+  }
+
   log(place) {
     return this.ask(`log ${place}`)
   }
@@ -539,132 +613,255 @@ export class Client {
   }
 }
 
-const compare = (one, other) => one.time - other.time || one.micro - other.micro
+const numbersOf = words => words.split(" ").map(Number)
 
-/** How many of these rising tags are before this one. */
-function before(tags, tag) {
+// A tag as one number, in the order of tags, and back.
+const placeOf = ({ time, micro }) => 256 * time + micro
+const tagAt = place => ({ time: Math.floor(place / 256), micro: place % 256 })
+const NO_PLACE = -1
+
+/** The first of rising numbers that is not below one: its index, or their length. */
+function firstFrom(numbers, number) {
   let low = 0
-  let high = tags.length
+  let high = numbers.length
   while (low < high) {
     const middle = (low + high) >> 1
-    if (compare(tags[middle], tag) < 0) low = middle + 1
+    if (numbers[middle] < number) low = middle + 1
     else high = middle
   }
   return low
 }
 
-const numbersOf = words => words.split(" ").map(Number)
+/** Places in rising order, each once, in blocks: one that comes late moves those of its block alone. */
+class Places {
+  #blocks = [[]]
+  /** The first place of each block. */
+  #begins = [NO_PLACE]
+  length = 0
+
+  /** The greatest; NO_PLACE where there is none. */
+  get last() {
+    return this.#blocks.at(-1).at(-1) ?? NO_PLACE
+  }
+
+  add(place) {
+    const block = place > this.last ? this.#blocks.length - 1 : firstFrom(this.#begins, place + 1) - 1
+    const places = this.#blocks[block]
+    const at = firstFrom(places, place)
+    if (places[at] === place) return
+    places.splice(at, 0, place)
+    this.length += 1
+    if (places.length < WINDOW) return
+    const behind = places.splice(block === this.#blocks.length - 1 ? WINDOW - 1 : WINDOW / 2)
+    this.#blocks.splice(block + 1, 0, behind)
+    this.#begins.splice(block + 1, 0, behind[0])
+  }
+
+  /** How many are before this one: what lies behind is counted off, since the newest are asked for. */
+  before(place) {
+    let count = this.length
+    for (let block = this.#blocks.length - 1; block >= 0; block -= 1) {
+      const places = this.#blocks[block]
+      count -= places.length
+      if (this.#begins[block] < place) return count + firstFrom(places, place)
+    }
+    return count
+  }
+}
 
 // Refusals that pass: what was sent may be sent again.
 const FOR_NOW = new Set([8, 10, 14])
+const SYNTAX = 1
 
 /**
  * Sends the events and withdrawals of one origin, and keeps their counts, so that its announcements are true. No other
  * may send for this origin. What would break an announcement is a RangeError and not sent: what is before the last
  * announced tag, and a second payload of one name. What the host refuses does not count; where it refuses for now (no
- * memory, busy, no journal), the announcer says it again before the next announcement. A lost connection does no harm:
- * the client sends again what was not answered, and to a host that began anew the announcer sends all that it has.
+ * memory, busy, no journal), the announcer says it again before the next announcement.
+ *
+ * It begins with what the host counted of the origin, in one round trip. Of the names before it knows how many there are
+ * and which is the last: who asks for a tag that is not behind that one waits while the host's log is read, once. A lost
+ * connection does no harm: the client sends again what was not answered, and to a host that lacks what it had, since it
+ * began anew, the announcer sends all that it sent. A host that does not know `counts` has its log read in the beginning,
+ * and is sent all again over each connection.
  */
 export class Announcer {
+  /** Names that the host had, of which the tags are not known: how many, and the last one's place. */
+  #before = { events: 0, withdrawn: 0, last: NO_PLACE }
+  /** The names that are known: their tags' places, and of an event what it has. */
+  #events = new Places()
+  #withdrawn = new Places()
+  #payloads = new Map()
+  /** The lines that the host has of this, in order. */
+  #taken = new Set()
+  /** The answer to what was sent last, and what was refused for now, by its line. */
+  #answer = Promise.resolve()
+  #held = new Map()
+  /** Where the last announcement ends that the host has, those that are under way, and the last of these. */
+  #announced = 0
+  #words = new Set()
+  #newest = NO_PLACE
+  /** Over which connection the host was asked last; what reads its log, or says all again. */
+  #connections
+  #reading = null
+  #saying = null
+
   constructor(client, origin) {
-    Object.assign(this, { client, origin, words: new Set([{ time: 0, micro: 0 }]), events: [], withdrawn: [], payloads: new Map() })
-    // The lines that the host has, and those that are under way or were refused for now.
-    Object.assign(this, { taken: new Set(), open: new Map() })
-    this.began = this.begin()
+    this.client = client
+    this.origin = origin
+    /** Resolved once it knows what the host has of the origin. */
+    this.began = this.#begin()
     this.began.catch(() => {})
-    client.onReopened(() => this.again().catch(() => {}))
+    client.onReopened(() => this.#again().catch(() => {}))
   }
 
   /** Takes up what the host's log has of the origin. That must be all that was ever sent for it. */
-  async begin() {
+  async #begin() {
     await this.client.ready
+    const { connections } = this.client
+    const host = await this.#asked()
+    if (host) {
+      this.#count(host)
+      this.#announced = host.reached
+    } else await this.#read()
+    this.#connections = connections
+  }
+
+  /** What the host has of the origin; null where it does not know these words. */
+  async #asked() {
+    try {
+      const [{ events, withdrawn, last }, reached] = await Promise.all([this.client.counts(this.origin), this.client.reached(this.origin)])
+      return { events, withdrawn, last: placeOf(last), reached: placeOf(reached) }
+    } catch (error) {
+      if (error instanceof Refused && error.number === SYNTAX) return null
+      throw error
+    }
+  }
+
+  /** Of what the host has all that is not known by its tag was there before. */
+  #count(host) {
+    const [events, withdrawn] = [host.events - this.#events.length, host.withdrawn - this.#withdrawn.length]
+    if (events === this.#before.events && withdrawn === this.#before.withdrawn) return
+    this.#before = { events, withdrawn, last: events || withdrawn ? host.last : NO_PLACE }
+  }
+
+  /** Reads the host's log: then each name is known. */
+  async #read() {
     const { log } = await this.client.horizon()
-    const entries = await Promise.all(Array.from({ length: log }, (_, at) => this.client.log(at + 1)))
-    for (const entry of entries) if (entry?.record.origin === this.origin) this.note(entry.record)
-    this.connections = this.client.connections
+    for (let first = 1; first <= log; first += WINDOW) {
+      const places = Array.from({ length: Math.min(WINDOW, log + 1 - first) }, (_, at) => first + at)
+      for (const entry of await Promise.all(places.map(place => this.client.log(place)))) {
+        if (entry?.record.origin === this.origin) this.#note(entry.record)
+      }
+    }
+    this.#before = { events: 0, withdrawn: 0, last: NO_PLACE }
   }
 
   /** The greatest tag that was announced, or is about to be. */
   get announced() {
-    return [...this.words].reduce((one, other) => (compare(one, other) < 0 ? other : one))
+    return tagAt(Math.max(this.#announced, this.#newest))
+  }
+
+  /** The greatest tag of the origin's names that the host has, once it `began`; null where there is none. */
+  get last() {
+    const place = Math.max(this.#before.last, this.#events.last, this.#withdrawn.last)
+    return place === NO_PLACE ? null : tagAt(place)
   }
 
   /** Counts a record that the host has. */
-  note({ kind, time, micro, input, value, events, withdrawn }) {
-    const tag = { time, micro }
-    const name = `${time} ${micro}`
+  #note({ kind, time, micro, input, value, events, withdrawn }) {
+    const place = placeOf({ time, micro })
     const payload = { event: ` ${input} ${value}`, announce: ` ${events} ${withdrawn}` }[kind] ?? ""
-    this.taken.add(`${kind} ${this.origin} ${name}${payload}`)
+    this.#taken.add(`${kind} ${this.origin} ${time} ${micro}${payload}`)
     if (kind === "announce") {
-      for (const word of this.words) if (compare(word, tag) <= 0) this.words.delete(word)
-      this.words.add(tag)
-      return
-    }
-    if (kind === "event") this.payloads.set(name, payload)
-    const tags = kind === "event" ? this.events : this.withdrawn
-    const at = before(tags, tag)
-    if (!tags[at] || compare(tags[at], tag)) tags.splice(at, 0, tag)
+      this.#announced = Math.max(this.#announced, place)
+    } else if (kind === "event") {
+      this.#payloads.set(place, payload)
+      this.#events.add(place)
+    } else this.#withdrawn.add(place)
   }
 
-  /** Over another connection says all of it again: the host may have begun anew. */
-  async again() {
+  /**
+   * What comes before each call: the host has what it had, and this place, unless it is before what was announced, is behind
+   * the names of which no tag is known.
+   */
+  async #ready(place) {
+    await this.#again()
+    if (place <= this.#before.last && place >= placeOf(this.announced)) this.#reading ??= this.#read().finally(() => (this.#reading = null))
+    if (this.#reading) await this.#reading
+  }
+
+  /** Over another connection asks what the host has of the origin. */
+  async #again() {
     await this.began
     await this.client.ready
     const { connections } = this.client
-    if (this.connections === connections) return
-    this.saying ??= Promise.all(Array.from(this.taken, line => this.client.ask(line)))
-      .then(() => (this.connections = connections))
-      .finally(() => (this.saying = null))
-    await this.saying
+    if (this.#connections === connections) return
+    this.#saying ??= this.#renew()
+      .then(() => (this.#connections = connections))
+      .finally(() => (this.#saying = null))
+    await this.#saying
+  }
+
+  /** Says all again to a host that lacks some of it, as one that began anew. */
+  async #renew() {
+    const host = await this.#asked()
+    const [events, withdrawn] = [this.#before.events + this.#events.length, this.#before.withdrawn + this.#withdrawn.length]
+    if (host && host.events >= events && host.withdrawn >= withdrawn && host.reached >= this.#announced) return this.#count(host)
+    const lines = [...this.#taken]
+    for (let first = 0; first < lines.length; first += WINDOW) {
+      await Promise.all(lines.slice(first, first + WINDOW).map(line => this.client.ask(line)))
+    }
+    if (host) this.#count(await this.#asked())
   }
 
   /** Sends an event or a withdrawal, and counts it once the host has it. */
-  async put(line, record) {
+  async #put(line, record) {
     const answer = this.client.ask(line)
-    this.open.set(line, { record, answer })
+    this.#answer = answer
+    this.#held.delete(line)
     try {
       const taken = await answer
-      this.note(record)
-      this.open.delete(line)
+      this.#note(record)
       return taken
     } catch (error) {
-      const isForNow = error instanceof Refused && FOR_NOW.has(error.number)
-      if (isForNow) this.open.set(line, { record, answer: null })
-      else this.drop(line, record)
+      if (error instanceof Refused && FOR_NOW.has(error.number)) this.#held.set(line, record)
+      else this.#drop(line, record)
       throw error
     }
   }
 
   /** What was refused is as if it had never been sent; but the host may have had it before. */
-  drop(line, { kind, time, micro }) {
-    this.open.delete(line)
-    if (kind === "event" && !this.taken.has(line)) this.payloads.delete(`${time} ${micro}`)
+  #drop(line, { kind, time, micro }) {
+    if (kind === "event" && !this.#taken.has(line)) this.#payloads.delete(placeOf({ time, micro }))
   }
 
-  check(line, tag) {
+  #check(line, place) {
     const { announced } = this
-    if (compare(tag, announced) < 0) throw new RangeError(`before what was announced, ${announced.time} ${announced.micro}: ${line}`)
+    if (place < placeOf(announced)) throw new RangeError(`before what was announced, ${announced.time} ${announced.micro}: ${line}`)
   }
 
   async event(input, event) {
     const [tag, value] = [tagIn(event), valueIn(event)]
     const [time, micro] = numbersOf(tag)
-    await this.again()
+    const place = placeOf({ time, micro })
+    await this.#ready(place)
     const at = this.client.names.input(input)
     const payload = ` ${at} ${value}`
     const line = `event ${this.origin} ${tag}${payload}`
-    if ((this.payloads.get(tag) ?? payload) !== payload) throw new RangeError(`another payload of its name was sent: ${line}`)
-    this.check(line, { time, micro })
-    this.payloads.set(tag, payload)
-    return this.put(line, { kind: "event", time, micro, input: at, value })
+    if ((this.#payloads.get(place) ?? payload) !== payload) throw new RangeError(`another payload of its name was sent: ${line}`)
+    this.#check(line, place)
+    this.#payloads.set(place, payload)
+    return this.#put(line, { kind: "event", time, micro, input: at, value })
   }
 
   async withdraw(tag) {
     const line = `withdraw ${this.origin} ${tagIn(tag)}`
     const [time, micro] = numbersOf(tagIn(tag))
-    await this.again()
-    this.check(line, { time, micro })
-    return this.put(line, { kind: "withdraw", time, micro })
+    const place = placeOf({ time, micro })
+    await this.#ready(place)
+    this.#check(line, place)
+    return this.#put(line, { kind: "withdraw", time, micro })
   }
 
   /**
@@ -674,28 +871,32 @@ export class Announcer {
   async announce(tag) {
     const words = `announce ${this.origin} ${tagIn(tag)}`
     const [time, micro] = numbersOf(tagIn(tag))
-    const word = { kind: "announce", time, micro }
-    await this.again()
-    this.check(words, word)
-    this.words.add(word)
+    const place = placeOf({ time, micro })
+    await this.#ready(place)
+    this.#check(words, place)
+    const word = { place }
+    this.#words.add(word)
+    this.#newest = place
     try {
-      await this.settle(word)
-      const [events, withdrawn] = [before(this.events, word), before(this.withdrawn, word)]
+      await this.#settle(place)
+      const events = this.#before.events + this.#events.before(place)
+      const withdrawn = this.#before.withdrawn + this.#withdrawn.before(place)
       const taken = await this.client.ask(`${words} ${events} ${withdrawn}`)
-      this.note({ ...word, events, withdrawn })
+      this.#note({ kind: "announce", time, micro, events, withdrawn })
       return taken
-    } catch (error) {
-      if (error instanceof Refused) this.words.delete(word)
-      throw error
+    } finally {
+      this.#words.delete(word)
+      // They end in their order: where the last one does, none is left, but for what was refused.
+      if (place === this.#newest) this.#newest = [...this.#words].reduce((most, it) => Math.max(most, it.place), NO_PLACE)
     }
   }
 
-  /** Waits for what is under way before a tag, and sends again what was refused for now. */
-  async settle(tag) {
-    const waiting = () => [...this.open].filter(([, { record }]) => compare(record, tag) < 0)
-    await Promise.all(waiting().map(([, { answer }]) => answer?.catch(() => {})))
-    await Promise.all(waiting().map(([line, { record, answer }]) => (answer ?? this.put(line, record)).catch(error => {
-      if (this.open.has(line)) throw error
+  /** Waits for what was sent, of which the last is answered last; and sends again what was refused for now before a place. */
+  async #settle(end) {
+    await this.#answer.catch(() => {})
+    const held = [...this.#held].filter(([, record]) => placeOf(record) < end)
+    await Promise.all(held.map(([line, record]) => this.#put(line, record).catch(error => {
+      if (this.#held.has(line)) throw error
     })))
   }
 }

@@ -5,14 +5,22 @@
 
 import { Announcer, Ended, Refused } from "../warpd.js"
 
+/** @param {number} milliseconds */
 const sleep = milliseconds => new Promise(resolve => setTimeout(resolve, milliseconds))
 
+/** @type {Case[]} */
 export const CASES = []
 
+/**
+ * @param {string} name
+ * @param {Case["body"]} body
+ * @param {{ tokens?: string } & import("../warpd.js").ClientOptions} words
+ */
 function hosted(name, body, { tokens, ...options } = {}) {
   CASES.push({ name, body, tokens, options })
 }
 
+/** @param {() => unknown} holds */
 async function until(holds) {
   for (let turn = 0; turn < 1_000; turn += 1) {
     if (holds()) return
@@ -46,7 +54,7 @@ hosted("a refusal has its number and meaning, and lines behind it go on", async 
   await assert.rejects(refused, error => error instanceof Refused && error.number === 3 && error.meaning === "past the program's stop")
   assert.deepEqual(await next, { log: 0, count: 0 })
   const answers = await client.many(["nonsense", "lost"])
-  assert.equal(answers[0].number, 1)
+  assert.equal(answers[0] instanceof Refused && answers[0].number, 1)
   assert.deepEqual(answers[1], { log: 0, count: 0 })
   await assert.rejects(client.ask("lost\nlost"), RangeError)
   await assert.rejects(client.event("r.c", { time: 1, value: 1 }), RangeError)
@@ -59,6 +67,7 @@ hosted("values have 64 bits", async ({ assert, client }) => {
 })
 
 hosted("what is watched is pushed in order", async ({ assert, client }) => {
+  /** @type {number[]} */
   const places = []
   await client.watch("log", push => places.push(push.place)).started
   await client.watch("vars").started
@@ -69,6 +78,7 @@ hosted("what is watched is pushed in order", async ({ assert, client }) => {
   await Promise.all([first.announce({ time: 10 }), second.announce({ time: 10 })])
   const rows = []
   for await (const row of released) {
+    if (row.frozen) break
     rows.push([row.index, row.time, row.value])
     if (rows.length === 2) break
   }
@@ -81,9 +91,15 @@ hosted("what is watched is pushed in order", async ({ assert, client }) => {
 hosted("steps tell what is executed, and how far a late event goes back", async ({ assert, client }) => {
   const most = 2n ** 63n - 1n
   await client.event("r.a", { time: 5, value: 1 })
+  /** @type {any[]} */
   const pushes = []
   const watch = client.watch("steps", push => pushes.push(push))
   assert.deepEqual(await watch.started, { count: 1 })
+  /**
+   * @param {number} time
+   * @param {Record<string, bigint>} given
+   * @param {bigint} total
+   */
   const step = (time, given, total) => ({
     ...{ time, micro: 0, given, due: [], changed: { "r.total": total }, outputs: { "r.y": total }, pending: 0 },
   })
@@ -152,8 +168,15 @@ hosted("what is refused for now is said again before the next announcement", asy
 
 hosted("what is missing or out of range is told in words, and not sent", async ({ assert, client }) => {
   const announcer = new Announcer(client, 0)
+  /**
+   * @param {Promise<unknown>} promise
+   * @param {typeof TypeError | typeof RangeError} kind
+   * @param {string} words
+   */
   const told = async (promise, kind, words) => assert.rejects(promise, error => error instanceof kind && error.message.includes(words))
-  for (const it of [event => client.event("r.a", event), event => announcer.event("r.a", event)]) {
+  /** @type {((event?: any) => Promise<unknown>)[]} */
+  const calls = [event => client.event("r.a", event), event => announcer.event("r.a", event)]
+  for (const it of calls) {
     await told(it({ value: 3 }), TypeError, "time is missing")
     await told(it({ time: 9 }), TypeError, "value is missing")
     await told(it(), TypeError, "time is missing")
@@ -162,12 +185,18 @@ hosted("what is missing or out of range is told in words, and not sent", async (
     await told(it({ time: 1, micro: 256, value: 3 }), RangeError, "micro is 256")
     await told(it({ time: 1, value: 2n ** 63n }), RangeError, "value is 9223372036854775808")
   }
-  await told(announcer.announce(9), TypeError, "time is missing")
-  await told(client.announce(0, { time: 9 }), TypeError, "events is missing")
-  await told(client.withdraw({ time: 9 }), RangeError, "origin is")
+  // What the types rule out.
+  /** @type {any} */
+  const wrongly = client
+  /** @type {any} */
+  const wrong = announcer
+  await told(wrong.announce(9), TypeError, "time is missing")
+  await told(wrongly.announce(0, { time: 9 }), TypeError, "events is missing")
+  await told(wrongly.withdraw({ time: 9 }), RangeError, "origin is")
+  /** @param {any[]} words */
   const thrown = (...words) => {
     try {
-      client.watch(...words)
+      wrongly.watch(...words)
     } catch (error) {
       return `${error}`
     }
@@ -180,8 +209,10 @@ hosted("what is missing or out of range is told in words, and not sent", async (
 
 hosted("a host that begins anew gets all again, and is watched on", async ({ assert, client, host }) => {
   const announcer = new Announcer(client, 0)
+  /** @type {string[]} */
   const states = []
   client.onstate = state => states.push(state)
+  /** @type {number[]} */
   const horizons = []
   client.watch("horizon", push => horizons.push(push.time))
   await announcer.event("r.a", { time: 5, value: 3 })

@@ -9,6 +9,7 @@ import { Announcer, Client } from "../warpd.js"
 const CLIENTS = new URL("../../", import.meta.url).pathname
 const text = readFileSync(`${CLIENTS}README.md`, "utf8")
 const rows = text.split("\n").filter(line => line.startsWith("| ")).slice(1).map(line => line.split(" | "))
+/** @param {number} column */
 const callsOf = column => rows.flatMap(cells => [...cells[column].matchAll(/\bc\.(\w+)/g)].map(it => it[1]))
 
 test("the table's calls of JavaScript are there", () => {
@@ -16,9 +17,9 @@ test("the table's calls of JavaScript are there", () => {
   const calls = callsOf(2)
   assert.ok(calls.length > 20)
   const client = new Client("ws://127.0.0.1:1/ws", { WebSocket: class { close() {} } })
-  for (const call of calls) assert.ok(fields.has(call) ? call in client : typeof client[call] === "function", call)
+  for (const call of calls) assert.ok(fields.has(call) ? call in client : typeof Reflect.get(client, call) === "function", call)
   client.close()
-  for (const call of ["event", "withdraw", "announce"]) assert.equal(typeof Announcer.prototype[call], "function")
+  for (const call of ["event", "withdraw", "announce"]) assert.equal(typeof Reflect.get(Announcer.prototype, call), "function")
 })
 
 test("the table's calls of Python are there", () => {

@@ -33,8 +33,8 @@ from os import PathLike
 from typing import NamedTuple, Optional, Union
 
 __all__ = [
-    "Announce", "Announcer", "Board", "Breach", "Broken", "Carrier", "Client", "Collected", "Count", "Differ", "Due", "Ended", "Entry", "Event", "Frozen",
-    "Horizon", "HostClient", "Known", "Logged", "Names", "Nothing", "Output", "Push", "Record", "Refused", "Released", "Rollback", "Row", "Shape",
+    "Announce", "Announcer", "Board", "Breach", "Broken", "Carrier", "Client", "Collected", "Count", "Counts", "Differ", "Due", "Ended", "Entry", "Event", "Frozen",
+    "Horizon", "HostClient", "Known", "Logged", "Names", "Nothing", "Output", "Push", "Record", "Refused", "Reached", "Released", "Rollback", "Row", "Shape",
     "Skipped", "Step", "Tag", "Taken", "Var", "Variables", "Withdraw", "carry",
 ]
 
@@ -56,7 +56,9 @@ LONGEST, SHOWN = 1 << 22, 200
 MOST_ORIGINS, MOST_VARIABLES = 64, 256
 # Refusals that pass: the line may be sent again.
 FOR_NOW = (8, 10, 14)
-FULL = 7
+SYNTAX, FULL = 1, 7
+# So many tags a block has at most.
+BLOCK = 1_024
 
 
 class Refused(Exception):
@@ -172,6 +174,25 @@ class Collected(NamedTuple):
     log: int
 
 
+class Counts(NamedTuple):
+    """How many names of an origin have an event, withdrawn or not, how many have a withdrawal, with an event or without, and
+    the greatest tag of these names, that of the start where there are none."""
+
+    log: int
+    origin: int
+    events: int
+    withdrawn: int
+    last: Tag
+
+
+class Reached(NamedTuple):
+    """Up to which tag the announcements of an origin are reached."""
+
+    log: int
+    origin: int
+    tag: Tag
+
+
 class Board(NamedTuple):
     """How many rows the board has, and whether it is frozen: then no row comes any more."""
 
@@ -254,6 +275,10 @@ def reply_of(text: str, line: str):
             return Refused(numbers[0], line)
         if word in ("output", "horizon"):
             return {"output": Output, "horizon": Horizon}[word](numbers[0], Tag(*numbers[1:3]), *numbers[3:])
+        if word == "counts":
+            return Counts(*numbers[:4], Tag(*numbers[4:]))
+        if word == "reached":
+            return Reached(*numbers[:2], Tag(*numbers[2:]))
         if word == "row":
             return Row(Tag(*numbers[:2]), *numbers[2:])
         if word in ("breach", "board"):
@@ -513,62 +538,171 @@ class Client:
             yield from self.many(f"row {number}" for number in range(first, min(first + WINDOW, end)))
 
 
+class _Tags:
+    """Tags in rising order, each once, in blocks: one that comes late moves those of its block alone."""
+
+    def __init__(self) -> None:
+        self._blocks: list[list[Tag]] = [[]]
+        # The first tag of each block but the first one.
+        self._begins: list[Tag] = []
+        self._count = 0
+
+    def __len__(self) -> int:
+        return self._count
+
+    def last(self) -> Optional[Tag]:
+        return self._blocks[-1][-1] if self._blocks[-1] else None
+
+    def add(self, tag: Tag) -> None:
+        place = bisect.bisect_right(self._begins, tag)
+        block = self._blocks[place]
+        at = bisect.bisect_left(block, tag)
+        if block[at : at + 1] == [tag]:
+            return
+        block.insert(at, tag)
+        self._count += 1
+        if len(block) == BLOCK:
+            # What comes in order leaves full blocks behind.
+            cut = BLOCK - 1 if place == len(self._begins) else BLOCK // 2
+            self._blocks.insert(place + 1, block[cut:])
+            self._begins.insert(place, block[cut])
+            del block[cut:]
+
+    def before(self, tag: Tag) -> int:
+        """How many are before this one: what lies behind is counted off, since the newest are asked for."""
+        place = bisect.bisect_left(self._begins, tag)
+        behind = sum(len(it) for it in self._blocks[place + 1 :])
+        block = self._blocks[place]
+        return self._count - behind - len(block) + bisect.bisect_left(block, tag)
+
+
+class _Known(NamedTuple):
+    """What a host has of an origin: of its names how many have an event, how many a withdrawal, and the last one, if there
+    is one; and up to where its announcements are reached."""
+
+    events: int
+    withdrawn: int
+    last: Optional[Tag]
+    reached: Tag
+
+
 class Announcer:
     """Sends the events and withdrawals of one origin, and keeps their counts, so that its announcements are true. No
     other may send for this origin. What would break an announcement, made or still to come, is a ValueError and not
     sent: what is before the last announced tag, and a second payload of one name.
 
+    It begins with what the host counted of the origin, in one round trip. Of the names before it knows how many there are
+    and which is the last: the first call with a tag that is not behind that one reads the host's log. A server that does
+    not know `counts` has its log read in the beginning.
+
     After a lost connection give it another one, by `client.reconnect()` or `announcer.client = Client(..)`. The next
-    call puts all that was sent for the origin there first: what was not answered, and what a server that began anew
-    does not have."""
+    call puts there what was not answered. Where the other side lacks what it had, since it began anew, or does not know
+    `counts`, all that was sent for the origin is put there first."""
 
     def __init__(self, client: Client, origin: int):
         """Takes up what this server's log has of the origin. That must be all that was ever sent for it: where it is
         not, carry the records there first; else the next announcement is false."""
         self.client, self.origin, self.announced = client, origin, Tag(0)
         self._payloads: dict[Tag, tuple[int, int]] = {}
-        self._events: list[Tag] = []
-        self._withdrawn: list[Tag] = []
+        self._events, self._withdrawn = _Tags(), _Tags()
+        # Names that the host had, of which the tags are not known: how many, and the last one.
+        self._before = _Known(0, 0, None, Tag(0))
         self._sent: dict[Record, None] = {}
         self._unanswered: Optional[Record] = None
-        # The connection to which all of this was sent.
+        # The connection over which the host has all of this.
         self._replies = client._replies
-        for record in client.records():
-            if record.origin == origin:
+        known = self._asked()
+        if known:
+            self._count(known)
+            self.announced = known.reached
+        else:
+            self._read()
+
+    @property
+    def last(self) -> Optional[Tag]:
+        """The greatest tag of the origin's names that the host has; None where there is none."""
+        return max((it for it in (self._before.last, self._events.last(), self._withdrawn.last()) if it), default=None)
+
+    def _asked(self) -> Optional[_Known]:
+        """What the host has of the origin; None where it does not know these words."""
+        answers = self.client.many([f"counts {self.origin}", f"reached {self.origin}"])
+        for refused in answers:
+            if isinstance(refused, Refused):
+                if refused.number != SYNTAX:
+                    raise refused
+                return None
+        counts, reached = answers
+        some = counts.events or counts.withdrawn
+        return _Known(counts.events, counts.withdrawn, counts.last if some else None, reached.tag)
+
+    def _count(self, known: _Known) -> None:
+        """Of what the host has all that is not known by its tag was there before."""
+        events, withdrawn = known.events - len(self._events), known.withdrawn - len(self._withdrawn)
+        if (events, withdrawn) != self._before[:2]:
+            self._before = _Known(events, withdrawn, known.last if events or withdrawn else None, known.reached)
+
+    def _read(self) -> None:
+        """Reads the host's log: then each name is known."""
+        for record in self.client.records():
+            if record.origin == self.origin:
                 self._note(record)
+        self._before = _Known(0, 0, None, Tag(0))
 
     def _note(self, record: Record) -> None:
         self._sent[record] = None
         if isinstance(record, Announce):
             self.announced = max(self.announced, record.tag)
-            return
-        tags = self._withdrawn
-        if isinstance(record, Event):
-            tags = self._events
+        elif isinstance(record, Event):
             self._payloads[record.tag] = (record.input, record.value)
-        at = bisect.bisect_left(tags, record.tag)
-        if tags[at : at + 1] != [record.tag]:
-            tags.insert(at, record.tag)
+            self._events.add(record.tag)
+        else:
+            self._withdrawn.add(record.tag)
+
+    def _ready(self, tag: Tag, least: Tag) -> None:
+        """What comes before each call: the host has what it had, and the tag, unless it is before the least one that a call may
+        have, is behind the names of which no tag is known."""
+        self._catch_up()
+        if self._before.last and least <= tag <= self._before.last:
+            self._read()
 
     def _catch_up(self) -> None:
-        """Over another connection puts again what was sent. What is refused now and was never answered was not
-        taken."""
+        """Over another connection puts what was not answered, and where the host lacks what it had all that was sent. What
+        is refused now and was never answered was not taken."""
         last = self._unanswered
         if self.client._replies is self._replies:
             if last:
                 raise Ended(f"the connection was lost with {str(last)!r} under way")
             return
-        replies = self.client.many([*self._sent, last] if last else self._sent)
+        replies = self.client._replies
+        known = self._asked()
+        lacks = not known or not self._is_kept(known)
+        if lacks:
+            self._say_again()
         if last:
-            refusal = replies[-1].number if isinstance(replies[-1], Refused) else None
-            if refusal is None:
-                self._note(last)
-            if refusal not in FOR_NOW:
-                self._unanswered = None
-        for refused in replies:
+            self._finish(last)
+        if known:
+            self._count(self._asked() if lacks or last else known)
+        self._replies = replies
+
+    def _say_again(self) -> None:
+        for refused in self.client.many(self._sent):
             if isinstance(refused, Refused):
                 raise refused
-        self._replies = self.client._replies
+
+    def _finish(self, last: Record) -> None:
+        """Puts what was under way when the connection was lost; a refusal is raised."""
+        (reply,) = self.client.many([last])
+        if not isinstance(reply, Refused):
+            self._note(last)
+        if not isinstance(reply, Refused) or reply.number not in FOR_NOW:
+            self._unanswered = None
+        if isinstance(reply, Refused):
+            raise reply
+
+    def _is_kept(self, known: _Known) -> bool:
+        """Whether a host that has this has all that was there before and all that was answered."""
+        events, withdrawn = self._before.events + len(self._events), self._before.withdrawn + len(self._withdrawn)
+        return known.events >= events and known.withdrawn >= withdrawn and known.reached >= self.announced
 
     def _ask(self, record: Record) -> Union[Taken, Known]:
         self._unanswered = record
@@ -587,22 +721,22 @@ class Announcer:
         return self._ask(record)
 
     def event(self, *, time: int, input: Union[int, str], value: int, micro: int = 0) -> Union[Taken, Known]:
-        self._catch_up()
+        self._ready(Tag(time, micro), self.announced)
         record = Event(self.origin, Tag(time, micro), self.client.names.input(input), value)
         if self._payloads.get(record.tag, record[2:]) != record[2:]:
             raise ValueError(f"another payload of its name was sent: {record}")
         return self._put(record)
 
     def withdraw(self, *, time: int, micro: int = 0) -> Union[Taken, Known]:
-        self._catch_up()
+        self._ready(Tag(time, micro), self.announced)
         return self._put(Withdraw(self.origin, Tag(time, micro)))
 
     def announce(self, time: int, micro: int = 0) -> Union[Taken, Known]:
         """Announces that nothing more comes before this tag."""
-        self._catch_up()
         tag = Tag(time, micro)
-        counts = (bisect.bisect_left(tags, tag) for tags in (self._events, self._withdrawn))
-        return self._put(Announce(self.origin, tag, *counts))
+        self._ready(tag, Tag(0))
+        events, withdrawn = self._before.events + self._events.before(tag), self._before.withdrawn + self._withdrawn.before(tag)
+        return self._put(Announce(self.origin, tag, events, withdrawn))
 
 
 class _Server:

@@ -14,7 +14,7 @@ from collections import deque
 from collections.abc import Callable, Iterator
 from typing import NamedTuple, Optional, TypeVar, Union
 
-from . import Client, Ended, Horizon, Names, Output, Record, Tag, cut, record_of, reply_of
+from . import Client, Counts, Ended, Horizon, Names, Output, Reached, Record, Tag, cut, record_of, reply_of
 
 Answer = TypeVar("Answer")
 # What reading a text raises that is not of its form.
@@ -267,6 +267,14 @@ class HostClient(Client):
         """The released output of this number, from 0."""
         text = self._word(f"release {index}")
         return None if text.startswith("none ") else reply_of(text.replace("release", "output", 1), "release")
+
+    def counts(self, origin: int) -> Counts:
+        """How many names of an origin have an event, how many a withdrawal, and the greatest tag of both."""
+        return self.ask(f"counts {origin}")
+
+    def reached(self, origin: int) -> Reached:
+        """Up to which tag the announcements of an origin are reached."""
+        return self.ask(f"reached {origin}")
 
     def watch(self, what: str, start: Optional[int] = None) -> Iterator[Push]:
         """Watches "log" or "released" (from `start` on, or from the first), "vars", "horizon", "breach", or "steps" (what

@@ -125,6 +125,8 @@ fn question_of(word: &str, rest: &str) -> Option<Question> {
         "vars" => Some(Question::Vars),
         "releases" => Some(Question::Releases),
         "release" => Some(Question::Release(number_of(rest)?)),
+        "counts" => Some(Question::Counts(number_of(rest)?)),
+        "reached" => Some(Question::Reached(number_of(rest)?)),
         "horizon" => Some(Question::Horizon),
         "breaches" => Some(Question::Breaches),
         "log" => {

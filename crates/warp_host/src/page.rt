@@ -5,7 +5,7 @@ use http::HeaderValue;
 /// What the page may do in a browser: its own style and script alone, told by their SHA-256, and connect to its host.
 const POLICY: &str = "\
 default-src 'none'; \
-script-src 'sha256-BHdpeZ+45UB5aJJunUMyL8nHrCz9CgwVY3nrLIiddfI='; \
+script-src 'sha256-hTKDMdYebk7cN7i4QlKmBbmc7ffWFil7agvUri5rwGU='; \
 style-src 'sha256-w6wrpSjQQo2ITNrYMfX6Z7+uynafgFVJ8u9XhCCqJFo='; \
 connect-src 'self'; \
 img-src data:; \
@@ -131,6 +131,34 @@ it was, the replica goes on from there) or more (timers and actions may lie behi
 }
 const FIRST_PAUSE = 100
 const LONGEST_PAUSE = 5_000
+const MOST_MESSAGE = 16_000
+class Queue {
+#items
+#first = 0
+constructor(items = []) {
+this.#items = items
+}
+get length() {
+return this.#items.length - this.#first
+}
+push(item) {
+this.#items.push(item)
+}
+shift() {
+const item = this.#items[this.#first]
+if (this.length) this.#first += 1
+if (2 * this.#first >= this.#items.length) {
+this.#items.splice(0, this.#first)
+this.#first = 0
+}
+return item
+}
+take() {
+const all = this.#items.splice(0).slice(this.#first)
+this.#first = 0
+return all
+}
+}
 class Refused extends Error {
 constructor(number, line) {
 const meaning = MEANINGS[number] ?? "unknown"
@@ -193,6 +221,11 @@ log: ([log, ...record]) => ({ log: Number(log), record: recordOf(record) }),
 watching: ([count]) => ({ count: Number(count) }),
 program: ([version, fingerprint]) => ({ version: Number(version), fingerprint }),
 may: words => ({ may: words.join(" ") }),
+counts: words => {
+const [log, origin, events, withdrawn, ...last] = words.map(Number)
+return { log, origin, events, withdrawn, last: tagged(...last) }
+},
+reached: ([log, origin, ...tag]) => ({ log: Number(log), origin: Number(origin), ...tagged(...tag) }),
 }
 function rowOf([time, micro, output, value]) {
 return { ...tagged(time, micro), output: Number(output), value: BigInt(value) }
@@ -231,13 +264,14 @@ breach: ([log, ...origins]) => ({ log: Number(log), origins: origins.map(Number)
 step: ([json]) => executedOf(json),
 skipped: ([count]) => ({ skipped: Number(count) }),
 }
+const STATES = new Set(["vars", "horizon", "breach"])
 const SUBJECT_OF = { frozen: "released", step: "steps", skipped: "steps" }
 const SUBJECTS = [...new Set(Object.keys(PUSHES).map(it => SUBJECT_OF[it] ?? it))]
 class Watch {
 #client
 #callback
-#waiting = []
-#wanted = []
+#waiting = new Queue()
+#wanted = new Queue()
 #isOver = false
 constructor(client, what, next, callback) {
 this.what = what
@@ -254,7 +288,11 @@ if (at !== undefined) this.next = at + 1
 this.#callback?.(value)
 const wanted = this.#wanted.shift()
 if (wanted) wanted({ value, done: false })
-else if (!this.#callback) this.#waiting.push(value)
+else if (!this.#callback) this.#keep(value)
+}
+#keep(value) {
+if (STATES.has(this.what)) this.#waiting.take()
+this.#waiting.push(value)
 }
 async stop() {
 if (this.#isOver) return
@@ -263,7 +301,7 @@ await this.#client.unwatch(this)
 }
 end() {
 this.#isOver = true
-for (const wanted of this.#wanted.splice(0)) wanted({ value: undefined, done: true })
+for (const wanted of this.#wanted.take()) wanted({ value: undefined, done: true })
 }
 [Symbol.asyncIterator]() {
 return {
@@ -295,7 +333,7 @@ class Client {
 #pause = FIRST_PAUSE
 #timer
 #isOpened = false
-#asked = []
+#asked = new Queue()
 #watches = new Map()
 #isReady
 #isNotReady
@@ -337,7 +375,7 @@ const lines = ["names", "program"]
 if (this.#token !== undefined) lines.unshift(`token ${this.#token}`)
 const opening = lines.map(line => new Asked(line))
 for (const asked of opening) asked.isOfOpening = true
-this.#asked = [...opening, ...this.#asked.filter(it => !it.isOfOpening)]
+this.#asked = new Queue([...opening, ...this.#asked.take().filter(it => !it.isOfOpening)])
 this.#send(opening)
 Promise.all(opening.map(it => it.answer)).then(answers => {
 if (this.#socket === socket && this.state !== "closed") this.#greeted(...answers.slice(-2))
@@ -349,18 +387,28 @@ if (this.#fingerprint !== fingerprint) {
 return this.#finish(new Ended(`the host has another program now, ${fingerprint}: it had ${this.#fingerprint}`))
 }
 this.names = names
-const begun = new Set(this.#asked.map(it => it.watch))
+const asked = this.#asked.take()
+const begun = new Set(asked.map(it => it.watch))
 const missing = [...this.#watches.values()].filter(it => !begun.has(it)).map(it => new Asked(it.line))
-for (const asked of this.#asked) if (asked.watch) asked.line = asked.watch.line
-this.#asked.unshift(...missing)
+for (const it of asked) if (it.watch) it.line = it.watch.line
+const all = [...missing, ...asked]
+this.#asked = new Queue(all)
 this.#isOpened = true
-this.#send(this.#asked)
+this.#send(all)
 this.#turn("open")
 this.#isReady(this)
 if (this.connections > 1) for (const callback of this.#reopened) callback()
 }
 #send(asked) {
-if (asked.length) this.#socket.send(asked.map(it => it.line).join("\n"))
+let text = ""
+for (const { line } of asked) {
+if (text.length + line.length >= MOST_MESSAGE) {
+this.#socket.send(text)
+text = ""
+}
+text += `${line}\n`
+}
+if (text) this.#socket.send(text)
 }
 #closed() {
 this.#isOpened = false
@@ -387,7 +435,7 @@ this.#isOpened = false
 this.error ??= error
 this.#turn("closed")
 this.#isNotReady(error)
-for (const asked of this.#asked.splice(0)) asked.reject(error)
+for (const asked of this.#asked.take()) asked.reject(error)
 for (const watch of this.#watches.values()) watch.end()
 this.#watches.clear()
 this.#socket.close()
@@ -458,17 +506,6 @@ if (this.#watches.get(watch.what) !== watch) return
 this.#watches.delete(watch.what)
 await this.ask(`unwatch ${watch.what}`)
 }
-}
-const compare = (one, other) => one.time - other.time || one.micro - other.micro
-function before(tags, tag) {
-let low = 0
-let high = tags.length
-while (low < high) {
-const middle = (low + high) >> 1
-if (compare(tags[middle], tag) < 0) low = middle + 1
-else high = middle
-}
-return low
 }
 const orderOf = (one, other) => one.time - other.time || one.micro - other.micro
 const tagText = tag => (tag.micro ? `${tag.time}.${tag.micro}` : `${tag.time}`)

@@ -29,6 +29,8 @@ rest a b are = ap (λ (ws : List (List ℕ)). drop 1 ws) are
 -- a word of two words
 pub data Two (key text : List ℕ) : Type 0 where
   release : (number : ℕ) → number ≤ last_number → key ≡ codes "release" → text ≡ decimal number → Two key text
+  counts : (origin : ℕ) → origin ≤ last_number → key ≡ codes "counts" → text ≡ decimal origin → Two key text
+  reached : (origin : ℕ) → origin ≤ last_number → key ≡ codes "reached" → text ≡ decimal origin → Two key text
   watched : (what : Watch) → IsWatch what → key ≡ codes "watch" → text ∷ [] ≡ watch_words what → Two key text
   unwatched : (what : Subject) → key ≡ codes "unwatch" → text ≡ subject_name what → Two key text
 
@@ -38,6 +40,8 @@ two_of key text word.Names fits are = absurd (omega (arith, count _ _ are))
 two_of key text word.Vars fits are = absurd (omega (arith, count _ _ are))
 two_of key text word.Releases fits are = absurd (omega (arith, count _ _ are))
 two_of key text (word.Release number) fits are = release number fits (first _ _ are) (second _ _ are)
+two_of key text (word.Counts origin) fits are = counts origin fits (first _ _ are) (second _ _ are)
+two_of key text (word.Reached origin) fits are = reached origin fits (first _ _ are) (second _ _ are)
 two_of key text (word.Watch (watch.Log place)) fits are = absurd (omega (arith, count _ _ are))
 two_of key text (word.Watch (watch.Released number)) fits are = absurd (omega (arith, count _ _ are))
 two_of key text (word.Watch watch.Vars) fits are = watched watch.Vars tt (first _ _ are) (rest _ _ are)
@@ -47,10 +51,13 @@ two_of key text (word.Watch watch.Steps) fits are = watched watch.Steps tt (firs
 two_of key text (word.Unwatch what) fits are = unwatched what (first _ _ are) (second _ _ are)
 
 -- the keywords of two words differ in their first letter
-pub no_two : (key text : List ℕ) (said : Word) → (key ≡ codes "release" → ⊥) → (key ≡ codes "watch" → ⊥) → (key ≡ codes "unwatch" → ⊥)
+pub no_two : (key text : List ℕ) (said : Word) → (key ≡ codes "release" → ⊥) → (key ≡ codes "counts" → ⊥) → (key ≡ codes "reached" → ⊥)
+    → (key ≡ codes "watch" → ⊥) → (key ≡ codes "unwatch" → ⊥)
     → IsWord said → key ∷ text ∷ [] ≡ word_words said → ⊥
-no_two key text said r w u fits are = elim (two_of key text said fits are) [
+no_two key text said r n e w u fits are = elim (two_of key text said fits are) [
   | release number small is text_is ↦ r is
+  | counts origin small is text_is ↦ n is
+  | reached origin small is text_is ↦ e is
   | watched what range is text_is ↦ w is
   | unwatched what is text_is ↦ u is
 ]
@@ -59,6 +66,28 @@ pub no_release : (key text : List ℕ) (said : Word) → key ≡ codes "release"
     → IsWord said → key ∷ text ∷ [] ≡ word_words said → ⊥
 no_release key text said key_is none fits are = elim (two_of key text said fits are) [
   | release number small is text_is ↦ none number small text_is
+  | counts origin small is text_is ↦ omega (arith, ap (λ (w : List ℕ). get_or w 0 0) (sym key_is ∙ is))
+  | reached origin small is text_is ↦ omega (arith, ap (λ (w : List ℕ). get_or w 2 0) (sym key_is ∙ is))
+  | watched what range is text_is ↦ omega (arith, ap (λ (w : List ℕ). get_or w 0 0) (sym key_is ∙ is))
+  | unwatched what is text_is ↦ omega (arith, ap (λ (w : List ℕ). get_or w 0 0) (sym key_is ∙ is))
+]
+
+pub no_counts : (key text : List ℕ) (said : Word) → key ≡ codes "counts" → ((origin : ℕ) → origin ≤ last_number → text ≡ decimal origin → ⊥)
+    → IsWord said → key ∷ text ∷ [] ≡ word_words said → ⊥
+no_counts key text said key_is none fits are = elim (two_of key text said fits are) [
+  | release number small is text_is ↦ omega (arith, ap (λ (w : List ℕ). get_or w 0 0) (sym key_is ∙ is))
+  | counts origin small is text_is ↦ none origin small text_is
+  | reached origin small is text_is ↦ omega (arith, ap (λ (w : List ℕ). get_or w 0 0) (sym key_is ∙ is))
+  | watched what range is text_is ↦ omega (arith, ap (λ (w : List ℕ). get_or w 0 0) (sym key_is ∙ is))
+  | unwatched what is text_is ↦ omega (arith, ap (λ (w : List ℕ). get_or w 0 0) (sym key_is ∙ is))
+]
+
+pub no_reached : (key text : List ℕ) (said : Word) → key ≡ codes "reached"
+    → ((origin : ℕ) → origin ≤ last_number → text ≡ decimal origin → ⊥) → IsWord said → key ∷ text ∷ [] ≡ word_words said → ⊥
+no_reached key text said key_is none fits are = elim (two_of key text said fits are) [
+  | release number small is text_is ↦ omega (arith, ap (λ (w : List ℕ). get_or w 2 0) (sym key_is ∙ is))
+  | counts origin small is text_is ↦ omega (arith, ap (λ (w : List ℕ). get_or w 0 0) (sym key_is ∙ is))
+  | reached origin small is text_is ↦ none origin small text_is
   | watched what range is text_is ↦ omega (arith, ap (λ (w : List ℕ). get_or w 0 0) (sym key_is ∙ is))
   | unwatched what is text_is ↦ omega (arith, ap (λ (w : List ℕ). get_or w 0 0) (sym key_is ∙ is))
 ]
@@ -67,6 +96,8 @@ pub no_watch : (key text : List ℕ) (said : Word) → key ≡ codes "watch" →
     → IsWord said → key ∷ text ∷ [] ≡ word_words said → ⊥
 no_watch key text said key_is none fits are = elim (two_of key text said fits are) [
   | release number small is text_is ↦ omega (arith, ap (λ (w : List ℕ). get_or w 0 0) (sym key_is ∙ is))
+  | counts origin small is text_is ↦ omega (arith, ap (λ (w : List ℕ). get_or w 0 0) (sym key_is ∙ is))
+  | reached origin small is text_is ↦ omega (arith, ap (λ (w : List ℕ). get_or w 0 0) (sym key_is ∙ is))
   | watched what range is text_is ↦ none what range text_is
   | unwatched what is text_is ↦ omega (arith, ap (λ (w : List ℕ). get_or w 0 0) (sym key_is ∙ is))
 ]
@@ -75,6 +106,8 @@ pub no_unwatch : (key text : List ℕ) (said : Word) → key ≡ codes "unwatch"
     → IsWord said → key ∷ text ∷ [] ≡ word_words said → ⊥
 no_unwatch key text said key_is none fits are = elim (two_of key text said fits are) [
   | release number small is text_is ↦ omega (arith, ap (λ (w : List ℕ). get_or w 0 0) (sym key_is ∙ is))
+  | counts origin small is text_is ↦ omega (arith, ap (λ (w : List ℕ). get_or w 0 0) (sym key_is ∙ is))
+  | reached origin small is text_is ↦ omega (arith, ap (λ (w : List ℕ). get_or w 0 0) (sym key_is ∙ is))
   | watched what range is text_is ↦ omega (arith, ap (λ (w : List ℕ). get_or w 0 0) (sym key_is ∙ is))
   | unwatched what is text_is ↦ none what text_is
 ]
@@ -87,6 +120,8 @@ three_of key what number word.Names fits are = absurd (omega (arith, count _ _ a
 three_of key what number word.Vars fits are = absurd (omega (arith, count _ _ are))
 three_of key what number word.Releases fits are = absurd (omega (arith, count _ _ are))
 three_of key what number (word.Release n) fits are = absurd (omega (arith, count _ _ are))
+three_of key what number (word.Counts n) fits are = absurd (omega (arith, count _ _ are))
+three_of key what number (word.Reached n) fits are = absurd (omega (arith, count _ _ are))
 three_of key what number (word.Watch w) fits are = (w, fits, first _ _ are, rest _ _ are)
 three_of key what number (word.Unwatch w) fits are = absurd (omega (arith, count _ _ are))
 
@@ -127,6 +162,8 @@ few_words word.Names = (omega arith, omega arith)
 few_words word.Vars = (omega arith, omega arith)
 few_words word.Releases = (omega arith, omega arith)
 few_words (word.Release number) = (omega arith, omega arith)
+few_words (word.Counts origin) = (omega arith, omega arith)
+few_words (word.Reached origin) = (omega arith, omega arith)
 few_words (word.Watch (watch.Log place)) = (omega arith, omega arith)
 few_words (word.Watch (watch.Released number)) = (omega arith, omega arith)
 few_words (word.Watch watch.Vars) = (omega arith, omega arith)
@@ -150,6 +187,8 @@ plain_words word.Names fits = refl
 plain_words word.Vars fits = refl
 plain_words word.Releases fits = refl
 plain_words (word.Release number) fits = rw (plain_decimal number (omega (arith, fits))) refl
+plain_words (word.Counts origin) fits = rw (plain_decimal origin (omega (arith, fits))) refl
+plain_words (word.Reached origin) fits = rw (plain_decimal origin (omega (arith, fits))) refl
 plain_words (word.Watch (watch.Log place)) fits = rw (plain_decimal place (omega (arith, fits.1))) refl
 plain_words (word.Watch (watch.Released number)) fits = rw (plain_decimal number (omega (arith, fits))) refl
 plain_words (word.Watch watch.Vars) fits = refl

@@ -25,6 +25,8 @@ IsWord word.Names = Unit {0}
 IsWord word.Vars = Unit {0}
 IsWord word.Releases = Unit {0}
 IsWord (word.Release number) = number ≤ last_number
+IsWord (word.Counts origin) = origin ≤ last_number
+IsWord (word.Reached origin) = origin ≤ last_number
 IsWord (word.Watch what) = IsWatch what
 IsWord (word.Unwatch what) = Unit {0}
 
@@ -53,6 +55,8 @@ word_words word.Names = codes "names" ∷ []
 word_words word.Vars = codes "vars" ∷ []
 word_words word.Releases = codes "releases" ∷ []
 word_words (word.Release number) = codes "release" ∷ decimal number ∷ []
+word_words (word.Counts origin) = codes "counts" ∷ decimal origin ∷ []
+word_words (word.Reached origin) = codes "reached" ∷ decimal origin ∷ []
 word_words (word.Watch what) = codes "watch" ∷ watch_words what
 word_words (word.Unwatch what) = codes "unwatch" ∷ subject_name what ∷ []
 

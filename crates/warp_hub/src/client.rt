@@ -462,6 +462,8 @@ impl Client {
             Word::Vars => self.ask(Question::Vars),
             Word::Releases => self.ask(Question::Releases),
             Word::Release(number) => self.ask(Question::Release(number)),
+            Word::Counts(origin) => self.ask(Question::Counts(origin)),
+            Word::Reached(origin) => self.ask(Question::Reached(origin)),
             Word::Watch(watch) => {
                 self.watches.begin(watch);
                 self.has_wish = true;

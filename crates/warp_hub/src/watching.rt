@@ -253,6 +253,8 @@ impl Watchings {
             Question::Breaches => self.breach.missed(),
             Question::Releases => {}
             Question::Release(_) => {}
+            Question::Counts(_) => {}
+            Question::Reached(_) => {}
         }
     }
 

@@ -57,6 +57,10 @@ pub enum Word {
     Releases,
     /// `release I`: the released output with this number, from 0.
     Release(u32),
+    /// `counts O`: how many names this origin has.
+    Counts(u32),
+    /// `reached O`: up to which tag the announcements of this origin are reached.
+    Reached(u32),
     /// `watch WHAT`: what is to be watched.
     Watch(Watch),
     /// `unwatch WHAT`: what is no longer to be watched.
@@ -136,6 +140,12 @@ fn word_of_two(word: &[u8], rest: &[u8]) -> Option<Word>
 {
     if is_keyword(word, b"release") {
         return Some(Word::Release(read_index(rest)?));
+    }
+    if is_keyword(word, b"counts") {
+        return Some(Word::Counts(read_index(rest)?));
+    }
+    if is_keyword(word, b"reached") {
+        return Some(Word::Reached(read_index(rest)?));
     }
     if is_keyword(word, b"watch") {
         return Some(Word::Watch(watch_of_one(rest)?));

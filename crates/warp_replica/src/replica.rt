@@ -11,8 +11,10 @@ ghost use Rattle.warp_step.specs.Counter.{IsUnused};
 ghost use Rattle.warp_step.specs.Run.{Row};
 ghost use Rattle.warp_tag.specs.Table.{live};
 ghost use Rattle.warp_line.specs.Timeline.{IsDone, KeepsDone, Settles};
+ghost use Rattle.warp_table.specs.Announced.{ReachesTo};
 ghost use Rattle.warp_table.specs.Log.{EachOnce, IsAt};
 ghost use Rattle.warp_table.specs.Check.{refusal_of};
+ghost use Rattle.warp_table.specs.NameCounts.{AreCounts};
 ghost use Rattle.warp_table.specs.Names.{origin_of};
 ghost use Rattle.warp_table.specs.Records.{set_of};
 ghost use Rattle.warp_table.specs.LogNames.{table_of};
@@ -33,8 +35,8 @@ use std::sync::ledger::{Blank, Ledger};
 use warp_line::Timeline;
 use warp_record::{Query, Record, Refusal, Reply};
 use warp_step::{Meter, Out, Program};
-use warp_table::Table;
-use warp_tag::OutOfMemory;
+use warp_table::{NameCounts, Table};
+use warp_tag::{OutOfMemory, Tag};
 
 /// A program, the records that were taken, and the run over them. Contracts see the program, the list of the records
 /// in the order of taking, and the timeline, which stands for both with some rows done.
@@ -458,6 +460,21 @@ impl<T: Timeline> Replica<T> {
             log,
             broken: self.table.broken(origin),
         }
+    }
+
+    /// How many names of the origin have an event, how many have a withdrawal, and the greatest tag of these names, by
+    /// the records that it took. It costs no pass over them.
+    pub fn counts(&self, origin: u32) -> NameCounts
+        ensures { AreCounts (set_of self.now.records) origin result }
+    {
+        self.table.counts(origin)
+    }
+
+    /// Up to which tag the origin's announcements are reached by the records that it took, the beginning where none is.
+    pub fn reached(&self, origin: u32) -> Tag
+        ensures { ReachesTo (set_of self.now.records) origin result }
+    {
+        self.table.reached(origin)
     }
 
     /// Tells how much was lost in the run.

@@ -24,7 +24,7 @@ use Rattle.warp_table.proofs.Sets.{in_set, same_tag}
 -- Counts of tags
 
 -- sameness of tags is an equivalence
-same_tag_equiv : IsEquivalence is_same
+pub same_tag_equiv : IsEquivalence is_same
 same_tag_equiv = record {
   refl = λ t. (same_tag t t).1 refl;
   symm = λ t u. same_from_decides (is_same t u) (is_same u t) (same_tag t u) (Decides-like (is_same u t) sym sym (same_tag u t));
@@ -32,7 +32,7 @@ same_tag_equiv = record {
 }
 
 -- a tag that is before another is not that one
-apart : (t u : Moment) → is_before t u ≡ true → t ≢ u
+pub apart : (t u : Moment) → is_before t u ≡ true → t ≢ u
 apart t u h e = let both : true ≡ false = sym h ∙ ap (is_before t) (sym e) ∙ not_before_self t in cc
 
 -- so many tags of a kind are below an end exactly if there are so many in the list of those of the kind

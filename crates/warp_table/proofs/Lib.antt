@@ -32,3 +32,4 @@ pub mod HeardNews
 pub mod LeastReach
 pub mod SomeHeard
 pub mod NoRecords
+pub mod CountedNames

@@ -4,4 +4,5 @@ pub mod Names
 pub mod LogNames
 pub mod Check
 pub mod Announced
+pub mod NameCounts
 pub mod inner

@@ -2,7 +2,7 @@
 //!
 //! Each announcement has how many names are before its tag. A new name is counted in the announcements beyond it
 //! (`announced.rt`), so that what comes in order of tag costs no pass over what came before.
-ghost use Rattle.std.specs.Prelude.{◌≡◌, ◌↔◌, ◌⊎◌, Contains, IsTrue, OnOk, OnErr, false};
+ghost use Rattle.std.specs.Prelude.{◌≡◌, ◌↔◌, ◌⊎◌, Contains, IsTrue, OnOk, OnErr, false, length};
 ghost use Rattle.warp_table.specs.inner.Heard.{Announced, IsExceeded, IsHeardTo, earlier_of, nothing_heard};
 ghost use Rattle.warp_table.specs.inner.Heard.{with_tag};
 ghost use Rattle.warp_table.specs.inner.Tally.{tags_of, with_noted};
@@ -155,6 +155,20 @@ impl Announcer {
         let has_doubled = tally.has_doubled(self.doubled);
         self.verdict = self.verdict.with(&tally).broken_where(has_doubled);
         Ok(())
+    }
+
+    /// How many of its names have an event.
+    pub(crate) fn event_count(&self) -> usize
+        ensures { result ≡ length self.now.events }
+    {
+        self.events.len()
+    }
+
+    /// How many of its names have a withdrawal.
+    pub(crate) fn withdrawal_count(&self) -> usize
+        ensures { result ≡ length self.now.withdrawn }
+    {
+        self.withdrawn.len()
     }
 
     /// The greatest tag of an announcement that is reached, the beginning where none is.

@@ -4,9 +4,11 @@ ghost use Rattle.warp_tag.specs.Moment.{Moment};
 ghost use Rattle.warp_tag.specs.Table.{Event, IsTable, known, live};
 ghost use Rattle.warp_tag.specs.declared.entry.Entry.{Entry};
 ghost use Rattle.warp_record.specs.declared.record.Record.{Record};
+ghost use Rattle.warp_table.specs.NameCounts.{AreCounts};
 ghost use Rattle.warp_table.specs.Names.{IsLive, IsOf, Tells};
 ghost use Rattle.warp_table.specs.Records.{HasSize, IsIn, Records, set_of, union};
 ghost use Rattle.warp_table.specs.LogNames.{names_of, table_of};
+ghost use Rattle.warp_table.specs.declared.table.NameCounts.{NameCounts};
 
 /// The set of a list has just the list's records.
 pub fn in_set()
@@ -70,4 +72,9 @@ pub fn names_once()
     ensures each { (records : List Record) (origin : ℕ) (tag : Moment) →
         Contains (names_of records) (origin, tag) ↔
         ((said : Record) × IsIn (set_of records) said × IsOf origin tag said) }
+{}
+
+/// A set has one count of an origin's names.
+pub fn one_count()
+    ensures { (S : Records) (origin : ℕ) (a b : NameCounts) → AreCounts S origin a → AreCounts S origin b → a ≡ b }
 {}

@@ -22,7 +22,7 @@ mod tally;
 
 pub use honest_law::{honest_within, later_horizon, one_horizon, same_below, some_reach};
 pub use law::{
-    in_set, is_table, joined, known_by_set, live_by_set, live_once, names_once, one_set, one_size,
-    one_table, told_once,
+    in_set, is_table, joined, known_by_set, live_by_set, live_once, names_once, one_count, one_set,
+    one_size, one_table, told_once,
 };
-pub use table::{Added, Table};
+pub use table::{Added, NameCounts, Table};

@@ -49,8 +49,9 @@ impl Model for Names {
 }
 
 impl Names {
-    ghost use Rattle.std.specs.Prelude.{◌≡◌, [], None, Some, IsTrue, is_some, Contains, IfSome, OnOk, OnErr, false};
-    ghost use Rattle.std.specs.Prelude.{slice_get};
+    ghost use Rattle.std.specs.Prelude.{◌≡◌, [], None, Some, IsTrue, is_some, Contains, IfNone, IfSome, OnOk, OnErr};
+    ghost use Rattle.std.specs.Prelude.{false, slice_get};
+    ghost use Rattle.warp_tag.specs.Moment.{Moment, is_before};
     ghost use Rattle.warp_table.specs.inner.Heard.{with_tag};
     ghost use Rattle.std.specs.Map.{lookup};
     ghost use Rattle.warp_table.specs.inner.Kept.{is_named, put_known};
@@ -72,6 +73,17 @@ impl Names {
     {
         let rows = self.origins.get(name.origin as usize)?;
         rows.known(name.tag)
+    }
+
+    /// The greatest tag of the origin's names; `None` where it has none.
+    pub(crate) fn last(&self, origin: u32) -> Option<Tag>
+        ensures there { IfSome result (λ tag. IsTrue (is_some (lookup (is_named origin tag) self.now))) }
+        ensures greatest { IfSome result (λ tag. (other : Moment) → IsTrue (is_before tag other) →
+            lookup (is_named origin other) self.now ≡ None) }
+        ensures none { IfNone result ((other : Moment) → lookup (is_named origin other) self.now ≡ None) }
+    {
+        let rows = self.origins.get(origin as usize)?;
+        rows.last()
     }
 
     /// What is known of a name, which may change next; `None` where it is not there.

@@ -194,7 +194,8 @@ impl Model for Rows {
 }
 
 impl Rows {
-    ghost use Rattle.std.specs.Prelude.{◌≡◌, [], None, IsTrue, is_some, Contains, OnOk, OnErr, false};
+    ghost use Rattle.std.specs.Prelude.{◌≡◌, [], None, IsTrue, IfNone, IfSome, is_some, Contains, OnOk, OnErr, false};
+    ghost use Rattle.warp_tag.specs.Moment.{Moment, is_before};
     ghost use Rattle.warp_table.specs.inner.Heard.{with_tag};
     ghost use Rattle.warp_table.specs.inner.NamesByOrigin.{IsWith, row_of};
     ghost use Rattle.warp_table.specs.inner.Tally.{tags_of, with_noted};
@@ -220,6 +221,18 @@ impl Rows {
         let at = block_near(&self.blocks, tag, self.near);
         let (known, _place) = known_at(&self.blocks[at], tag, self.place);
         known
+    }
+
+    /// The greatest tag of a row; `None` where there is no row.
+    pub(crate) fn last(&self) -> Option<Tag>
+        ensures there { IfSome result (λ tag. IsTrue (is_some (row_of tag self.now))) }
+        ensures greatest { IfSome result
+            (λ tag. (other : Moment) → IsTrue (is_before tag other) → row_of other self.now ≡ None) }
+        ensures none { IfNone result (self.now ≡ []) }
+    {
+        let block = self.blocks.last()?;
+        let row = block.last()?;
+        Some(row.tag)
     }
 
     /// What is known of the name of this tag, which may change next; `None` where it has no row.

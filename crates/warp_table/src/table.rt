@@ -17,7 +17,8 @@ ghost use Rattle.warp_record.specs.declared.reply.Refusal.{Refusal};
 ghost use Rattle.warp_table.specs.Announced.{IsBroken, IsHorizon, ReachesTo};
 ghost use Rattle.warp_table.specs.Check.{refusal_of};
 ghost use Rattle.warp_table.specs.Log.{IsAt};
-ghost use Rattle.warp_table.specs.Names.{Tells, origin_of};
+ghost use Rattle.warp_table.specs.NameCounts.{AreCounts, AreSoMany, HasSomeEvent, IsLastName};
+ghost use Rattle.warp_table.specs.Names.{HasWithdrawal, Tells, origin_of};
 ghost use Rattle.warp_table.specs.Records.{set_of};
 ghost use Rattle.warp_table.specs.LogNames.{names_of};
 ghost use Rattle.warp_table.specs.inner.Heard.{AreHeard};
@@ -45,6 +46,17 @@ pub struct Added {
     pub place: u32,
     /// Whether it is new.
     pub is_new: bool,
+}
+
+/// How many names of an origin there are, and how far they go. A name is an origin and a tag.
+#[derive(Clone, Copy)]
+pub struct NameCounts {
+    /// How many of them have an event, withdrawn or not.
+    pub events: u64,
+    /// How many of them have a withdrawal, with an event or without.
+    pub withdrawn: u64,
+    /// The greatest tag of them, the beginning where there are none.
+    pub last: Tag,
 }
 
 /// Of two events of a name the one that the name does not keep, with its place, and the place of the one that it keeps.
@@ -240,7 +252,7 @@ impl Table {
     }
 
     /// Up to which tag the origin's announcements are reached, the beginning where none is.
-    fn reached(&self, origin: u32) -> Tag
+    pub fn reached(&self, origin: u32) -> Tag
         ensures { ReachesTo (set_of self.now) origin result }
     {
         match self.announcers.get(origin as usize) {
@@ -258,6 +270,48 @@ impl Table {
             return false;
         };
         announcer.is_broken()
+    }
+
+    /// How many names of the origin have an event, how many have a withdrawal, and the greatest tag of these names. It
+    /// looks at no name but the last one.
+    pub fn counts(&self, origin: u32) -> NameCounts
+        ensures { AreCounts (set_of self.now) origin result }
+    {
+        NameCounts {
+            events: self.event_count(origin),
+            withdrawn: self.withdrawal_count(origin),
+            last: self.last(origin),
+        }
+    }
+
+    /// How many names of the origin have an event.
+    fn event_count(&self, origin: u32) -> u64
+        ensures { AreSoMany result (HasSomeEvent (set_of self.now) origin) }
+    {
+        match self.announcers.get(origin as usize) {
+            Some(announcer) => announcer.event_count() as u64,
+            None => 0,
+        }
+    }
+
+    /// How many names of the origin have a withdrawal.
+    fn withdrawal_count(&self, origin: u32) -> u64
+        ensures { AreSoMany result (HasWithdrawal (set_of self.now) origin) }
+    {
+        match self.announcers.get(origin as usize) {
+            Some(announcer) => announcer.withdrawal_count() as u64,
+            None => 0,
+        }
+    }
+
+    /// The greatest tag of the origin's names, the beginning where it has none.
+    fn last(&self, origin: u32) -> Tag
+        ensures { IsLastName (set_of self.now) origin result }
+    {
+        let Some(tag) = self.names.last(origin) else {
+            return Tag::default();
+        };
+        tag
     }
 }
 

@@ -88,6 +88,16 @@ impl TagLog {
         true
     }
 
+    /// How many there are.
+    pub(crate) fn len(&self) -> usize
+        ensures { result ≡ length self.now }
+    {
+        if self.is_ordered {
+            return self.in_order.len();
+        }
+        self.came.len()
+    }
+
     /// How many of them are before this one. They stay.
     pub(crate) fn count_before(&mut self, tag: Tag) -> Result<usize, AllocError>
         ensures same { self.new ≡ self.old }

@@ -145,6 +145,13 @@ impl Tags {
         true
     }
 
+    /// How many there are.
+    pub(crate) fn len(&self) -> usize
+        ensures { result ≡ length self.now }
+    {
+        self.len
+    }
+
     /// How many of them are before this one.
     pub(crate) fn count_before(&self, tag: Tag) -> usize
         ensures { result ≡ tags_before tag self.now }

@@ -8,6 +8,7 @@ use Rattle.warp_record.specs.declared.record.Record.{Record}
 use Rattle.warp_record.specs.declared.reply.Reply.{Reply}
 use Rattle.warp_record.specs.Record.{tag_words}
 use Rattle.warp_record.specs.Reply.{reply_line}
+use Rattle.warp_table.specs.Announced.{beginning}
 use Rattle.warp_table.specs.Log.{EachOnce}
 use Rattle.warp_table.specs.Records.{set_of}
 use Rattle.warp_table.proofs.Sets.{one_size}
@@ -15,7 +16,7 @@ use Rattle.warp_replica.specs.Answers.{Answers, AreAnswers}
 use Rattle.warp_replica.specs.Gives.{GivesQuery}
 use Rattle.warp_watch.specs.Lines.{first_place, frozen_line, line_of, log_page, output_lines, page_count, record_lines}
 use Rattle.warp_watch.specs.Shown.{ShownState}
-use Rattle.warp_watch.specs.Telling.{ends_frozen, released_page, text_of}
+use Rattle.warp_watch.specs.Telling.{IsOfAsked, OfOrigin, ends_frozen, released_page, text_of}
 use Rattle.warp_watch.specs.declared.question.Question.{Question}
 
 -- the text that is told of the horizon
@@ -56,9 +57,17 @@ released_told s from until next is_last old new ends last added =
     (page_lines from (page_count (length s.rows) from until) next ends)
     ∙ ap (λ b. old ++ (released_page s from until ++ (if b then frozen_line else []))) last
 
+-- what nothing is asked of
+abbrev pub no_origin : OfOrigin
+no_origin = record { counts = record { events = 0; withdrawn = 0; last = beginning }; reached = beginning }
+
+-- this text was told to the question, behind what was there
+abbrev pub IsTold : Program → List Record → ShownState → List ℕ → List ℕ → Question → Type 0
+IsTold P records s old new asked =
+    (a : Answers) × AreAnswers P (set_of records) a
+    × ((o : OfOrigin) × IsOfAsked (set_of records) asked o × (new ≡ old ++ text_of P records s a o asked))
+
 -- a call that told it where it did not fail, at a question that is this one
 pub told_on : {T E H : Type 0} (r : Result T E) (P : Program) (records : List Record) (s : ShownState) (old new : List ℕ) (q asked : Question)
-    → asked ≡ q → OnOk r H → (H → (a : Answers) × AreAnswers P (set_of records) a × (new ≡ old ++ text_of P records s a q))
-    → OnOk r ((a : Answers) × AreAnswers P (set_of records) a × (new ≡ old ++ text_of P records s a asked))
-told_on r P records s old new q asked is h f =
-    subst (λ x. OnOk r ((a : Answers) × AreAnswers P (set_of records) a × (new ≡ old ++ text_of P records s a x))) (sym is) (on_ok_weaker r f h)
+    → asked ≡ q → OnOk r H → (H → IsTold P records s old new q) → OnOk r (IsTold P records s old new asked)
+told_on r P records s old new q asked is h f = subst (λ x. OnOk r (IsTold P records s old new x)) (sym is) (on_ok_weaker r f h)

@@ -7,10 +7,15 @@ use Rattle.std.proofs.lemmas.Grind.{flat_map-append}
 use Rattle.std.proofs.lemmas.Option.{get_or_from_slice_get, slice_get_cases, slice_get_within}
 use Rattle.warp_tag.specs.declared.out.Out.{Out}
 use Rattle.warp_record.specs.declared.record.Record.{Record}
-use Rattle.warp_record.specs.Record.{record_words}
+use Rattle.warp_record.specs.Record.{record_words, tag_words}
 use Rattle.warp_table.specs.Log.{IsAt}
-use Rattle.warp_record.specs.Reply.{out_words}
-use Rattle.warp_watch.specs.Lines.{broken_below, line_of}
+use Rattle.warp_record.specs.Reply.{out_words, reply_line}
+use Rattle.warp_record.specs.declared.reply.Refusal.TheVariants.{NoOrigin}
+use Rattle.warp_record.specs.declared.reply.Reply.TheVariants.{Refused}
+use Rattle.warp_step.specs.Program.{Program}
+use Rattle.warp_step.specs.Events.{is_declared}
+use Rattle.warp_table.specs.declared.table.NameCounts.{NameCounts}
+use Rattle.warp_watch.specs.Lines.{broken_below, counts_line, counts_text, line_of}
 
 -- joined words are the first one, and the others behind a space each
 pub joined_words : (word : List ℕ) (words : List (List ℕ)) → join_with_byte 32 (word ∷ words) ≡ word ++ flat_map (λ w. 32 ∷ w) words
@@ -90,6 +95,24 @@ words_added f word len xs t0 t1 t2 t3 t4 e1 e2 e3 e4 =
     put : (t0 t1 t2 t3 t4 a b c d : List ℕ) → t1 ≡ t0 ++ a → t2 ≡ t1 ++ b → t3 ≡ t2 ++ c → t4 ≡ t3 ++ d
         → t4 ≡ t0 ++ ((a ++ (b ++ c)) ++ d)
     put t0 t1 t2 t3 t4 a b c d e1 e2 e3 e4 = rw (e4, e3, e2, e1) (simp append_assoc)
+
+-- the line of an origin's counts, where the program has that origin
+pub counts_added : (P : Program) (len origin : ℕ) (k : NameCounts) (t0 t1 t2 t3 t4 t5 t6 : List ℕ) → is_declared P origin ≡ true
+    → t1 ≡ t0 ++ codes "counts" → t2 ≡ t1 ++ 32 ∷ decimal len → t3 ≡ t2 ++ 32 ∷ decimal origin → t4 ≡ t3 ++ 32 ∷ decimal k.events
+    → t5 ≡ t4 ++ 32 ∷ decimal k.withdrawn → t6 ≡ t5 ++ (flat_map (λ word. 32 ∷ word) (tag_words k.last) ++ 10 ∷ [])
+    → t6 ≡ t0 ++ counts_text P len origin k
+counts_added P len origin k t0 t1 t2 t3 t4 t5 t6 declared e1 e2 e3 e4 e5 e6 =
+    let rest : List (List ℕ) = decimal len ∷ decimal origin ∷ decimal k.events ∷ decimal k.withdrawn ∷ tag_words k.last in
+    let last : List ℕ = flat_map (λ word. 32 ∷ word) (tag_words k.last) in
+    let line : t6 ≡ t0 ++ ((codes "counts" ++ flat_map (λ word. 32 ∷ word) rest) ++ 10 ∷ []) =
+    put t0 t1 t2 t3 t4 t5 t6 (codes "counts") (32 ∷ decimal len) (32 ∷ decimal origin) (32 ∷ decimal k.events) (32 ∷ decimal k.withdrawn) last (10 ∷ [])
+    e1 e2 e3 e4 e5 e6 in
+    line ∙ ap (λ words. t0 ++ (words ++ 10 ∷ [])) (sym (joined_words (codes "counts") rest))
+    ∙ ap (λ b. t0 ++ (if b then counts_line len origin k else reply_line (Refused NoOrigin))) (sym declared)
+  where
+    put : (t0 t1 t2 t3 t4 t5 t6 a b c d e f g : List ℕ) → t1 ≡ t0 ++ a → t2 ≡ t1 ++ b → t3 ≡ t2 ++ c → t4 ≡ t3 ++ d → t5 ≡ t4 ++ e
+        → t6 ≡ t5 ++ (f ++ g) → t6 ≡ t0 ++ ((a ++ (b ++ (c ++ (d ++ (e ++ f))))) ++ g)
+    put t0 t1 t2 t3 t4 t5 t6 a b c d e f g e1 e2 e3 e4 e5 e6 = rw (e6, e5, e4, e3, e2, e1) (simp append_assoc)
 
 -- the origins below one more
 pub origin_more : (broken : ℕ → Bool) (origin : ℕ) (is : Bool) (old mid new : List ℕ) → is ≡ broken origin

@@ -3,10 +3,16 @@ use Rattle.std.specs.Prelude.{ℕ, ℤ, zero, suc, ◌+◌, ◌-◌, Bool, List,
 use Rattle.std.specs.Prelude.{decimal, Option, Some, None, ◌==◌, if◌then◌else◌}
 use Rattle.std.specs.Fmt.{signed_decimal}
 use Rattle.std.specs.List.{join_with_byte}
+use Rattle.warp_tag.specs.Moment.{Moment}
 use Rattle.warp_tag.specs.declared.out.Out.{Out}
 use Rattle.warp_record.specs.declared.record.Record.{Record}
-use Rattle.warp_record.specs.Record.{record_words}
-use Rattle.warp_record.specs.Reply.{out_words}
+use Rattle.warp_record.specs.Record.{record_words, tag_words}
+use Rattle.warp_record.specs.Reply.{out_words, reply_line}
+use Rattle.warp_record.specs.declared.reply.Refusal.TheVariants.{NoOrigin}
+use Rattle.warp_record.specs.declared.reply.Reply.TheVariants.{Refused}
+use Rattle.warp_step.specs.Program.{Program}
+use Rattle.warp_step.specs.Events.{is_declared}
+use Rattle.warp_table.specs.declared.table.NameCounts.{NameCounts}
 
 -- a line: its words, with one space between two, and a line feed
 abbrev pub line_of : List (List ℕ) → List ℕ
@@ -59,6 +65,24 @@ vars_line len values = line_of (codes "vars" ∷ decimal len ∷ map signed_deci
 -- the line of the broken origins, at a log of this length
 abbrev pub breach_line : ℕ → List ℕ → List ℕ
 breach_line len origins = line_of (codes "breach" ∷ decimal len ∷ map decimal origins)
+
+-- the line of an origin's counts, at a log of this length
+abbrev pub counts_line : ℕ → ℕ → NameCounts → List ℕ
+counts_line len origin counts = line_of (codes "counts" ∷ decimal len ∷ decimal origin ∷ decimal counts.events
+    ∷ decimal counts.withdrawn ∷ tag_words counts.last)
+
+-- the text that tells them: refusal 2 where the program has no such origin
+abbrev pub counts_text : Program → ℕ → ℕ → NameCounts → List ℕ
+counts_text P len origin counts =
+    if is_declared P origin then counts_line len origin counts else reply_line (Refused NoOrigin)
+
+-- the line of how far an origin's announcements are reached, at a log of this length
+abbrev pub reached_line : ℕ → ℕ → Moment → List ℕ
+reached_line len origin end = line_of (codes "reached" ∷ decimal len ∷ decimal origin ∷ tag_words end)
+
+-- the text that tells it: refusal 2 where the program has no such origin
+abbrev pub reached_text : Program → ℕ → ℕ → Moment → List ℕ
+reached_text P len origin end = if is_declared P origin then reached_line len origin end else reply_line (Refused NoOrigin)
 
 -- the line that stands behind the last shown output where none comes any more
 abbrev pub frozen_line : List ℕ

@@ -4,12 +4,17 @@ ghost use Rattle.std.specs.Prelude.{take};
 ghost use Rattle.std.specs.List.{flat_map};
 ghost use Rattle.warp_table.specs.Records.{set_of};
 ghost use Rattle.warp_replica.specs.Answers.{Answers, AreAnswers};
-ghost use Rattle.warp_watch.specs.Lines.{breach_line, broken_below, record_lines, vars_line};
+ghost use Rattle.warp_tag.specs.Moment.{Moment};
+ghost use Rattle.warp_table.specs.Announced.{ReachesTo};
+ghost use Rattle.warp_table.specs.NameCounts.{AreCounts};
+ghost use Rattle.warp_table.specs.declared.table.NameCounts.{NameCounts};
+ghost use Rattle.warp_watch.specs.Lines.{breach_line, broken_below, counts_text, reached_text, record_lines};
+ghost use Rattle.warp_watch.specs.Lines.{vars_line};
 
 use crate::shown::is_broken;
-use crate::words::{add_number, add_reply, add_values};
+use crate::words::{add_number, add_reply, add_tag, add_values};
 use warp_line::Timeline;
-use warp_record::Reply;
+use warp_record::{Refusal, Reply};
 use warp_replica::Replica;
 use warp_tag::OutOfMemory;
 
@@ -73,6 +78,49 @@ pub(crate) fn add_breaches<T: Timeline>(
     add_broken(text, replica, replica.program().origins())?;
     text.push(b'\n')?;
     Ok(())
+}
+
+/// Appends the line of how many names of an origin a replica has, or the refusal where its program has no such origin.
+pub(crate) fn add_counts<T: Timeline>(
+    text: &mut Vec<u8>,
+    replica: &Replica<T>,
+    origin: u32,
+) -> Result<(), OutOfMemory>
+    ensures { OnOk result ((counts : NameCounts) × AreCounts (set_of replica.now.records) origin counts
+        × (text.new.items ≡ text.old.items
+        ++ counts_text replica.now.program (length replica.now.records) origin counts)) }
+{
+    let counts = replica.counts(origin);
+    if replica.program().origins() <= origin {
+        return add_reply(text, &Reply::Refused(Refusal::NoOrigin));
+    }
+    text.extend_from_slice(b"counts")?;
+    add_number(text, replica.len())?;
+    add_number(text, origin)?;
+    add_number(text, counts.events)?;
+    add_number(text, counts.withdrawn)?;
+    add_tag(text, counts.last)
+}
+
+/// Appends the line of how far an origin's announcements are reached, or the refusal where its program has no such
+/// origin.
+pub(crate) fn add_reached<T: Timeline>(
+    text: &mut Vec<u8>,
+    replica: &Replica<T>,
+    origin: u32,
+) -> Result<(), OutOfMemory>
+    ensures { OnOk result ((end : Moment) × ReachesTo (set_of replica.now.records) origin end
+        × (text.new.items ≡ text.old.items
+        ++ reached_text replica.now.program (length replica.now.records) origin end)) }
+{
+    let end = replica.reached(origin);
+    if replica.program().origins() <= origin {
+        return add_reply(text, &Reply::Refused(Refusal::NoOrigin));
+    }
+    text.extend_from_slice(b"reached")?;
+    add_number(text, replica.len())?;
+    add_number(text, origin)?;
+    add_tag(text, end)
 }
 
 /// Appends the lines of the records at these places of the log, from 1, the last place not among them.

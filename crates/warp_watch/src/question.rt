@@ -16,6 +16,12 @@ pub enum Question {
     Horizon,
     /// The broken origins, in rising order: `breach N O O ..`.
     Breaches,
+    /// How many names of this origin have an event, how many have a withdrawal, and the greatest tag of these names, 0 0
+    /// where there is none: `counts N O E W T M`. `refused 2` where the program has no such origin.
+    Counts(u32),
+    /// Up to which tag this origin's announcements are reached, 0 0 where none is: `reached N O T M`. `refused 2` where
+    /// the program has no such origin.
+    Reached(u32),
     /// A page of the log: a line `log P RECORD` for each record from this place on, 256 at most.
     Log {
         /// The first place, from 1; 0 is as 1.

@@ -5,9 +5,9 @@ ghost use Rattle.warp_tag.specs.Limits.{most_records, widest};
 ghost use Rattle.warp_table.specs.Records.{set_of};
 ghost use Rattle.warp_replica.specs.Answers.{Answers, AreAnswers};
 ghost use Rattle.warp_watch.specs.Lines.{frozen_line, output_lines, page_count, release_line};
-ghost use Rattle.warp_watch.specs.Telling.{Tells, next_of, releases_line, tells_frozen, text_of};
+ghost use Rattle.warp_watch.specs.Telling.{IsOfAsked, OfOrigin, Tells, next_of, releases_line, tells_frozen, text_of};
 
-use crate::lines::{add_breaches, add_records, add_vars};
+use crate::lines::{add_breaches, add_counts, add_reached, add_records, add_vars};
 use crate::question::{PAGE, Question, Told};
 use crate::shown::Shown;
 use crate::words::{add_flag, add_frozen, add_number, add_output, add_reply, add_rows};
@@ -100,8 +100,9 @@ fn append<T: Timeline>(
     requires last { page.now.is_last ≡ tells_frozen shown.now question.now }
     ensures { OnOk result
         ((a : Answers) × AreAnswers replica.now.program (set_of replica.now.records) a
+        × ((o : OfOrigin) × IsOfAsked (set_of replica.now.records) question.now o
         × (text.new.items
-        ≡ text.old.items ++ text_of replica.now.program replica.now.records shown.now a question.now)) }
+        ≡ text.old.items ++ text_of replica.now.program replica.now.records shown.now a o question.now))) }
 {
     // A program has an origin, and each record is in its log once, so that there are answers.
     replica.program().valid();
@@ -113,6 +114,8 @@ fn append<T: Timeline>(
         Question::Release(number) => add_release(text, replica.len(), shown, number),
         Question::Horizon => add_reply(text, &replica.answer(Query::Horizon)),
         Question::Breaches => add_breaches(text, replica),
+        Question::Counts(origin) => add_counts(text, replica, origin),
+        Question::Reached(origin) => add_reached(text, replica, origin),
         Question::Log { from, .. } => add_records(text, replica, from.max(1), page.next),
         Question::Released { from, .. } => add_page(text, shown, from, page),
     }

@@ -2,12 +2,13 @@
 ghost use Rattle.std.specs.Prelude.{◌≡◌, ◌-◌, ◌∷◌, ◌++◌, [], OnOk, decimal, drop, take};
 ghost use Rattle.std.specs.Fmt.{signed_decimal};
 ghost use Rattle.std.specs.List.{flat_map};
+ghost use Rattle.warp_record.specs.Record.{tag_words};
 ghost use Rattle.warp_record.specs.Reply.{flag_word, out_words, reply_line};
 ghost use Rattle.warp_watch.specs.Lines.{frozen_line, line_of, output_lines};
 
 use itoa::{Buffer, Integer};
 use warp_record::{REPLY_ROOM, Reply, write_reply_line};
-use warp_tag::{Out, OutOfMemory};
+use warp_tag::{Out, OutOfMemory, Tag};
 
 /// Appends a space and a number.
 pub(crate) fn add_number<I: Integer>(text: &mut Vec<u8>, number: I) -> Result<(), OutOfMemory>
@@ -27,6 +28,17 @@ pub(crate) fn add_flag(text: &mut Vec<u8>, flag: bool) -> Result<(), OutOfMemory
     } else {
         text.extend_from_slice(b" 0\n")
     }
+}
+
+/// Appends a tag's two numbers, each behind a space, and a line feed.
+pub(crate) fn add_tag(text: &mut Vec<u8>, tag: Tag) -> Result<(), OutOfMemory>
+    ensures { OnOk result
+        (text.new.items ≡ text.old.items ++ (flat_map (λ word. 32 ∷ word) (tag_words tag) ++ 10 ∷ [])) }
+{
+    add_number(text, tag.time())?;
+    add_number(text, tag.micro())?;
+    text.push(b'\n')?;
+    Ok(())
 }
 
 /// Appends the line of a reply.

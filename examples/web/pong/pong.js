@@ -14,15 +14,29 @@ const NAMES = ["Ann", "Ben"]
 
 const words = new URLSearchParams(location.search)
 const player = words.get("player") === "ben" ? "ben" : "ann"
-const rule = RULES[words.get("rule")] ?? null
+const rule = RULES[words.get("rule") ?? ""] ?? null
+/** @type {(id: string) => any} */
 const at = id => document.getElementById(id)
+/** @typedef {{ x: number, y: number }} Ball */
+/** @typedef {import("./warpd.js").Row} Row */
+/**
+ * @type {{
+ *   newest: number, times: number, shown: Ball | null, ghost: Ball & { until: number } | null,
+ *   final: Row[], open: Row[], horizon: number, isAsking: boolean, slid: number,
+ * }}
+ */
 const seen = { newest: 0, times: 0, shown: null, ghost: null, final: [], open: [], horizon: 0, isAsking: false, slid: -Infinity }
 let wish = 0
+/** @type {any} What the server of this page tells of the game. */
 let game
+/** @type {Client} */
 let client
 
+/** @type {(path: string, text: string) => Promise<any>} */
 const post = async (path, text) => (await fetch(path, { method: "POST", body: text })).json()
+/** @type {(milliseconds: number) => Promise<unknown>} */
 const sleep = milliseconds => new Promise(resolve => setTimeout(resolve, milliseconds))
+/** @type {(name: string) => number} */
 const number = name => Number(client.vars[name] ?? 0n)
 
 /** Sends ticks and moves as the time comes: of each tick first the player's move, where it is another than before. */
@@ -36,7 +50,7 @@ class Play {
   async run() {
     await Promise.all([this.moves.began, this.clock.began])
     this.goes = Number((await client.var(`${player}.goes`)).value)
-    let tick = (this.clock.events.at(-1)?.time ?? 0) + 1
+    let tick = (this.clock.last?.time ?? 0) + 1
     const began = game.began - game.now + Date.now()
     for (; tick <= game.ticks; tick += 1) {
       await sleep(Math.max(0, began + tick * game.tick - Date.now()))
@@ -45,7 +59,10 @@ class Play {
     await this.announce(game.ticks + 1)
   }
 
-  /** Both players' pages send the same ticks, so each host has them at once. */
+  /**
+   * Both players' pages send the same ticks, so each host has them at once.
+   * @param {number} tick
+   */
   async play(tick) {
     const wanted = rule ? rule(tick, { row: number(`${player}.row`), ball: number("ball.y") }) : wish
     if (wanted !== this.goes) {
@@ -56,7 +73,10 @@ class Play {
     if (tick % ANNOUNCE_EVERY === 0) await this.announce(tick + 1)
   }
 
-  /** Says that no move of this player and no tick comes before this tick any more. */
+  /**
+   * Says that no move of this player and no tick comes before this tick any more.
+   * @param {number} time
+   */
   async announce(time) {
     await this.moves.announce({ time })
     await this.clock.announce({ time })
@@ -77,7 +97,10 @@ function watch() {
   })
 }
 
-/** A move that lies before the newest tick came late: the host went back. */
+/**
+ * A move that lies before the newest tick came late: the host went back.
+ * @param {import("./warpd.js").LogRecord} record
+ */
 function hear({ kind, time }) {
   if (kind === "announce") return
   if (time < seen.newest) {
@@ -99,15 +122,17 @@ function ask() {
     const { count } = await client.outputs()
     const first = seen.final.length
     const rows = await Promise.all(Array.from({ length: Math.max(0, count - first) }, (_, it) => client.output(first + it)))
-    seen.open = rows.filter(row => row && !seen.final.some(it => it.time === row.time))
+    seen.open = rows.flatMap(row => (row && !seen.final.some(it => it.time === row.time) ? [row] : []))
     tellPoints()
   }, 100)
 }
 
 function tellPoints() {
+  /** @type {(rows: Row[], name: string) => number} */
   const count = (rows, name) => rows.filter(row => NAMES[Number(row.value) - 1] === name).length
   at("final").textContent = NAMES.map(name => `${name} ${count(seen.final, name)}`).join(", ")
   at("horizon").textContent = `${Math.max(0, seen.horizon - 1)}`
+  /** @type {(row: Row, isFinal: boolean) => HTMLElement} */
   const item = (row, isFinal) => Object.assign(document.createElement("li"), {
     textContent: `${NAMES[Number(row.value) - 1]} at ${row.time}${isFinal ? ", final" : ", may change"}`,
     className: isFinal ? "done" : "open",
@@ -130,19 +155,21 @@ function draw() {
   const ratio = window.devicePixelRatio || 1
   if (canvas.width !== WIDTH * CELL * ratio) Object.assign(canvas, { width: WIDTH * CELL * ratio, height: HEIGHT * CELL * ratio })
   const style = getComputedStyle(document.documentElement)
+  /** @type {(name: string) => string} */
   const colour = name => style.getPropertyValue(`--${name}`)
   pen.setTransform(ratio * CELL, 0, 0, ratio * CELL, 0, 0)
   pen.fillStyle = colour("field")
   pen.fillRect(0, 0, WIDTH, HEIGHT)
   pen.fillStyle = colour("ink")
   for (const [x, row] of [[0.2, number("ann.row")], [WIDTH - 0.6, number("ben.row")]]) pen.fillRect(x, row - 1, 0.4, 3)
+  /** @type {(ball: Ball) => void} */
   const circle = ({ x, y }) => {
     pen.beginPath()
     pen.arc(x + 0.5, y + 0.5, 0.4, 0, 2 * Math.PI)
   }
   if (seen.shown) circle(seen.shown)
   pen.fill()
-  if (!(seen.ghost?.until > performance.now())) return
+  if (!seen.ghost || seen.ghost.until <= performance.now()) return
   pen.strokeStyle = colour("late")
   pen.lineWidth = 0.12
   circle(seen.ghost)
@@ -150,6 +177,7 @@ function draw() {
 }
 
 function steer() {
+  /** @type {Record<string, number>} */
   const keys = { ArrowUp: -1, ArrowDown: 1 }
   addEventListener("keydown", event => {
     if (!(event.key in keys) || event.target === at("delay")) return
@@ -159,7 +187,7 @@ function steer() {
   addEventListener("keyup", event => {
     if (keys[event.key] === wish) wish = 0
   })
-  for (const [id, way] of [["up", -1], ["down", 1]]) {
+  for (const [id, way] of Object.entries({ up: -1, down: 1 })) {
     at(id).addEventListener("pointerdown", () => (wish = way))
     for (const over of ["pointerup", "pointerleave", "pointercancel"]) at(id).addEventListener(over, () => (wish = 0))
   }
