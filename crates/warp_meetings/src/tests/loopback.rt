@@ -16,7 +16,12 @@ use warp_run::Warp;
 use warp_session::{Door, DoorFault, Failed, Open, Peer, PullEnd, Sink, Source, serve_sessions};
 
 /// What the test needs of the system.
-trait Machine: Threads + Wait + Clock + Abort + Sync + Net<Listener = TcpListener, Stream = TcpStream> {}
+trait Machine: Threads
+    + Wait
+    + Clock
+    + Abort
+    + Sync
+    + Net<Listener = TcpListener, Stream = TcpStream> {}
 
 impl<X> Machine for X
 where
