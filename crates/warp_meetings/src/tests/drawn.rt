@@ -1,6 +1,8 @@
 //! The timeline that rolls back and the one that runs from the start, beside each other: after each of 1,000 mixed
 //! records both answer every query alike.
 
+ghost use Rattle.std.specs.Prelude.{◌<◌};
+
 use crate::tests::steps::{end, replica, same};
 use std::alloc::Global;
 use std::process::Abort;
@@ -21,16 +23,21 @@ struct Dice {
 
 impl Dice {
     /// A number below this one, which is not 0.
-    fn roll(&mut self, most: u64) -> u64 {
+    fn roll(&mut self, most: u64) -> u64
+        requires { 0 < most }
+        ensures { result < most }
+    {
         self.state = self
             .state
             .wrapping_mul(6_364_136_223_846_793_005)
             .wrapping_add(1_442_695_040_888_963_407);
-        (self.state >> 33) % most.max(1)
+        (self.state >> 33) % most
     }
 
     /// A tag at one of this many times.
-    fn tag(&mut self, rt: &impl Abort, times: u64) -> Tag {
+    fn tag(&mut self, rt: &impl Abort, times: u64) -> Tag
+        requires { 0 < times }
+    {
         Tag::new(self.roll(times), self.roll(2) as u32).expect(rt, "a tag")
     }
 
@@ -42,7 +49,11 @@ impl Dice {
     /// A record of origin 0 or 1, or seldom of one that the program does not have: mostly an event of one of some 400
     /// names, with one of 9 values; else a withdrawal, or an announcement of an early tag.
     fn record(&mut self, rt: &impl Abort) -> Record {
-        let origin = (self.roll(41) % 3 % 2 + self.roll(40) / 39) as u32;
+        let origin = if self.roll(40) == 0 {
+            2
+        } else {
+            self.roll(2) as u32
+        };
         match self.roll(8) {
             0 => Record::Withdraw {
                 origin,

@@ -1,6 +1,6 @@
 use Rattle.std.proofs.Common.{◌≡◌, length}
 use Rattle.warp_lanes.specs.Engine.{ids_of}
-use Rattle.warp_lanes.proofs.tests.threads.serve_all.Given as goal
+use Rattle.warp_meetings.proofs.tests.ports.serve_all.Given as goal
 
 abbrev pub invariant-loop-lane : goal.invariant-loop-lane
 invariant-loop-lane g l =
