@@ -112,11 +112,11 @@ fn both_answer<T: Timeline, U: Timeline>(
     alloc: Global,
     one: &mut Replica<T>,
     other: &mut Replica<U>,
-    line: Line,
+    line: &Line,
     seen: &mut Seen,
 ) {
-    let reply = one.ask(alloc, line);
-    same(rt, &reply, &other.ask(alloc, line));
+    let reply = one.ask(alloc, *line);
+    same(rt, &reply, &other.ask(alloc, *line));
     seen.count(&reply);
 }
 
@@ -145,7 +145,7 @@ fn are_alike<T: Timeline, U: Timeline>(
     seen: &mut Seen,
 ) {
     for query in queries(one.len()) {
-        both_answer(rt, alloc, one, other, Line::Ask(query), seen);
+        both_answer(rt, alloc, one, other, &Line::Ask(query), seen);
     }
 }
 
@@ -160,9 +160,9 @@ fn take_drawn<T: Timeline, U: Timeline>(
     let mut dice = Dice { state: 5 };
     for number in 0..RECORDS {
         let record = dice.record(rt);
-        both_answer(rt, alloc, one, other, Line::Put(record), seen);
+        both_answer(rt, alloc, one, other, &Line::Put(record), seen);
         if number % 97 == 96 {
-            both_answer(rt, alloc, one, other, Line::Collect, seen);
+            both_answer(rt, alloc, one, other, &Line::Collect, seen);
         }
         are_alike(rt, alloc, one, other, seen);
     }

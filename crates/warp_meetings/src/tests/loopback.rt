@@ -145,12 +145,11 @@ const SENT: &[u8] = b"event 0 5 0 0 3\nevent 1 2 0 1 4\n";
 const TOLD: &[u8] = b"taken 1\ntaken 2\n";
 
 /// Sends both events, and hears the replies to their end.
-fn send_both<X: Machine>(rt: &X, alloc: Global, address: SocketAddr) {
-    let mut stream = connect(rt, address);
-    stream.write_all(SENT).expect(rt, "sent");
-    stream.shutdown(Shutdown::Write).expect(rt, "shut");
+fn send_both<X: Machine>(rt: &X, alloc: Global, mut client: TcpStream) {
+    client.write_all(SENT).expect(rt, "sent");
+    client.shutdown(Shutdown::Write).expect(rt, "shut");
     let mut told = Vec::new(alloc);
-    stream.read_to_end(&mut told).expect(rt, "told");
+    client.read_to_end(&mut told).expect(rt, "told");
     same(rt, &told.as_slice(), &TOLD);
 }
 
@@ -158,10 +157,11 @@ fn send_both<X: Machine>(rt: &X, alloc: Global, address: SocketAddr) {
 fn pull_behind<X: Machine, T: Timeline + Send + Drop>(
     rt: &X,
     alloc: Global,
-    address: SocketAddr,
+    client: TcpStream,
+    puller: TcpStream,
 ) -> Outcome {
-    send_both(rt, alloc, address);
-    let (source, sink) = both_ways(connect(rt, address)).expect(rt, "both ways");
+    send_both(rt, alloc, client);
+    let (source, sink) = both_ways(puller).expect(rt, "both ways");
     let peer = Peer {
         number: 0,
         source,
@@ -177,13 +177,18 @@ fn pull_behind<X: Machine, T: Timeline + Send + Drop>(
 const BOTH: Reply = Reply::Var { log: 2, value: -5 };
 
 /// The first server has a session for the client, and one for the second server.
-fn pull_from<X: Machine, T: Timeline + Send + Drop>(rt: &X, alloc: Global) {
-    let listener = listen(rt);
+fn pull_from<X: Machine, T: Timeline + Send + Drop>(
+    rt: &X,
+    alloc: Global,
+    listener: TcpListener,
+    client: TcpStream,
+) {
     let address = listener.local_addr().expect(rt, "an address");
+    let puller = connect(rt, address);
     let (first, second) = thread::join(
         rt,
         move || serve::<X, T>(rt, alloc, listener, 2, Vec::new(alloc)),
-        move || pull_behind::<X, T>(rt, alloc, address),
+        move || pull_behind::<X, T>(rt, alloc, client, puller),
     );
     same(rt, &first.total, &BOTH);
     same(rt, &second.total, &BOTH);
@@ -192,5 +197,8 @@ fn pull_from<X: Machine, T: Timeline + Send + Drop>(rt: &X, alloc: Global) {
 
 #[test]
 fn two_servers_pull(rt: HostRuntime) {
-    pull_from::<HostRuntime, Warp>(&rt, rt.alloc());
+    let listener: TcpListener = listen(&rt);
+    let address = listener.local_addr().expect(&rt, "an address");
+    let client: TcpStream = connect(&rt, address);
+    pull_from::<HostRuntime, Warp>(&rt, rt.alloc(), listener, client);
 }

@@ -5,4 +5,4 @@ use Rattle.warp_run.proofs.SentTimelines.{warp_send}
 use Rattle.warp_meetings.proofs.tests.servers.a_door_hears_of_a_pull.Goals as goal
 
 pub pulls-requires-send-T : goal.pulls-requires-send-T
-pulls-requires-send-T g c κs within = param_send _ _ (arg_send _ no _ warp_send)
+pulls-requires-send-T g c κs = param_send _ _ (arg_send _ no _ warp_send)

@@ -5,4 +5,4 @@ use Rattle.warp_run.proofs.SentTimelines.{warp_send}
 use Rattle.warp_meetings.proofs.tests.servers.sixteen_sessions_meet.Goals as goal
 
 pub meet-requires-send-T : goal.meet-requires-send-T
-meet-requires-send-T g c κs within = param_send _ _ (arg_send _ no _ warp_send)
+meet-requires-send-T g c κs = param_send _ _ (arg_send _ no _ warp_send)
