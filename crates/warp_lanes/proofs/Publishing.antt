@@ -71,7 +71,7 @@ pub front_of_front : {X : Type 0} (xs ys zs : List X) → StartsWith xs ys → S
 front_of_front xs ys zs p q = (q.0 ++ p.0, p.1 ∙ ap (λ l. l ++ p.0) q.1 ∙ append_assoc zs q.0 p.0)
 
 -- two filters, one after the other, are one
-filter_both : {X : Type 0} (p q r : X → Bool) → ((x : X) → r x ≡ (p x && q x)) → (xs : List X) → filter p (filter q xs) ≡ filter r xs
+pub filter_both : {X : Type 0} (p q r : X → Bool) → ((x : X) → r x ≡ (p x && q x)) → (xs : List X) → filter p (filter q xs) ≡ filter r xs
 filter_both p q r h [] = refl
 filter_both p q r h (x ∷ xs) = elim (cases_Bool (q x)) [
   | inl there ↦ elim (cases_Bool (p x)) [

@@ -2,6 +2,7 @@
 ghost use Rattle.std.specs.Prelude.{◌≡◌, ◌↔◌, ℕ, ◌+◌, ◌-◌, ◌<◌, ◌≤◌, [], ◌∷◌, ◌++◌, false, None, Ok, length, List};
 ghost use Rattle.std.specs.Prelude.{All, Contains, IsTrue, IfSome, IfNone, IsOk, IfOk, IfErr, OnOk, OnErr};
 ghost use Rattle.warp_tag.specs.Limits.{most_origins, most_outputs, most_records, widest};
+ghost use Rattle.warp_tag.specs.Moment.{Moment, is_before};
 ghost use Rattle.warp_record.specs.declared.line.Query.{Query};
 ghost use Rattle.warp_record.specs.declared.record.Record.{Record};
 ghost use Rattle.warp_record.specs.declared.reply.Reply.{Reply};
@@ -11,6 +12,7 @@ ghost use Rattle.warp_step.specs.Counter.{IsUnused};
 ghost use Rattle.warp_step.specs.Run.{Row};
 ghost use Rattle.warp_tag.specs.Table.{live};
 ghost use Rattle.warp_line.specs.Timeline.{IsDone, KeepsDone, Settles};
+ghost use Rattle.warp_table.specs.Announced.{IsHorizon};
 ghost use Rattle.warp_table.specs.Log.{EachOnce, IsAt};
 ghost use Rattle.warp_table.specs.Check.{refusal_of};
 ghost use Rattle.warp_table.specs.Names.{origin_of};
@@ -34,7 +36,7 @@ use warp_line::Timeline;
 use warp_record::{Query, Record, Refusal, Reply};
 use warp_step::{Meter, Out, Program};
 use warp_table::Table;
-use warp_tag::OutOfMemory;
+use warp_tag::{OutOfMemory, Tag};
 
 /// A program, the records that were taken, and the run over them. Contracts see the program, the list of the records
 /// in the order of taking, and the timeline, which stands for both with some rows done.
@@ -429,6 +431,15 @@ impl<T: Timeline> Replica<T> {
         let outputs = self.timeline.outputs();
         let count = outputs.partition_point(|output| output.tag.is_before(horizon));
         &outputs[..count]
+    }
+
+    /// Whether the tag is before the horizon, so that outputs at it are released. The replica need not be settled.
+    #[inline(always)]
+    pub fn is_before_horizon(&self, tag: Tag) -> bool
+        ensures { (horizon : Moment) × IsHorizon self.now.program (set_of self.now.records) horizon
+            × (result ≡ is_before tag horizon) }
+    {
+        tag.is_before(self.table.horizon(&self.program))
     }
 
     /// The values of all variables at the end of the run, in their order.
