@@ -7,7 +7,6 @@ ghost use Rattle.warp_record.specs.declared.record.Record.{Record};
 ghost use Rattle.warp_record.specs.declared.reply.Reply.{Reply};
 ghost use Rattle.warp_record.specs.Record.{IsRecord};
 ghost use Rattle.warp_record.specs.Reply.{IsOut, IsReply};
-ghost use Rattle.warp_step.specs.Counter.{IsUnused};
 ghost use Rattle.warp_step.specs.Run.{Row};
 ghost use Rattle.warp_tag.specs.Table.{live};
 ghost use Rattle.warp_line.specs.Timeline.{IsDone, KeepsDone, Settles};
@@ -24,12 +23,11 @@ ghost use Rattle.warp_replica.specs.Replica.{AreAllowed, standing_of, Stands};
 ghost use Rattle.warp_replica.specs.Gives.{GivesQuery, Takes, came_in, tag_of, told};
 
 use crate::entering::{comes_behind, enter_record};
-use crate::idle::Idle;
+use crate::idle::settle_untold;
 use crate::rebuilding::rebuilt;
 use crate::taking::Took;
 use std::alloc::Global;
-use std::marker::{Brand, Model};
-use std::sync::ledger::{Blank, Ledger};
+use std::marker::Model;
 use warp_line::Timeline;
 use warp_record::{Query, Record, Refusal, Reply};
 use warp_step::{Meter, Out, Program};
@@ -275,27 +273,7 @@ impl<T: Timeline> Replica<T> {
         if self.timeline.is_settled() {
             return Ok(());
         }
-        self.settle_untold::<Brand>(alloc, Blank::new(1))
-    }
-
-    /// Settles. `blank` is the ledger that the ticks are counted in, which nobody asks for.
-    #[inline(never)]
-    fn settle_untold<L: Ledger>(&mut self, alloc: Global, blank: Blank) -> Result<(), OutOfMemory>
-        requires { IsUnused blank L.name L.parts }
-        ensures stands { (done : List Row) → Stands T.stands_for self.old done →
-            (ticks : ℕ) × (after : List Row)
-            × Settles T.stands_for self.new.timeline (standing_of self.old done) ticks after
-            × OnOk result (IsDone (standing_of self.new after)) }
-        ensures program { self.new.program ≡ self.old.program }
-        ensures records { self.new.records ≡ self.old.records }
-        ensures floor { T.floor self.new.timeline ≡ T.floor self.old.timeline }
-        ensures settled { OnOk result (IsTrue (T.settled self.new.timeline)) }
-        ensures unsettled { OnErr result (T.settled self.new.timeline ≡ false) }
-        ensures refused { OnErr result (T.refused self.new.timeline) }
-        ensures idle { IsTrue (T.settled self.old.timeline) → IsOk result × (self.new ≡ self.old) }
-    {
-        let mut idle = Idle::<L>::new(blank);
-        self.timeline.settle(alloc, &self.program, &mut idle)
+        settle_untold(self, alloc)
     }
 
     /// Whether all rows are done, so that queries can be answered.

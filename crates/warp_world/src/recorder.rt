@@ -1,5 +1,5 @@
 //! A desk that takes records, and executes nothing.
-ghost use Rattle.std.specs.Prelude.{◌≡◌, ℕ, ◌<◌, ◌≤◌, [], IfErr, IfNone, IfOk, IfSome, None, Contains, false, length};
+ghost use Rattle.std.specs.Prelude.{◌≡◌, ℕ, ◌<◌, ◌≤◌, [], IfErr, IfNone, IfOk, IfSome, None, Contains, length};
 ghost use Rattle.warp_tag.specs.Limits.{most_origins, most_records, widest};
 ghost use Rattle.warp_record.specs.Reply.{IsReply};
 ghost use Rattle.warp_record.specs.declared.line.Line.{Line};
@@ -113,8 +113,6 @@ impl Desk for Recorder {
 
     ghost form_of = { λ s. s.program.form };
 
-    ghost together = { false };
-
     /// Takes a record that a line brings. It executes nothing, and so a query gets `refused 8`.
     fn ask(&mut self, line: Line) -> Reply {
         match line {
@@ -127,10 +125,6 @@ impl Desk for Recorder {
             Line::Ask(_) => Reply::Refused(Refusal::NoMemory),
             Line::Collect => Reply::Refused(Refusal::NoMemory),
         }
-    }
-
-    fn asks_together() -> bool {
-        false
     }
 
     /// The form of the program.
