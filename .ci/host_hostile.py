@@ -157,4 +157,33 @@ def lying_peer():
     liar.listener.close()
 
 
-CASES = [web_floods, newest_ping, neither_lines_nor_requests, lying_peer]
+def guesses():
+    """A connection that said three wrong tokens is closed behind the third answer, over lines and over WebSocket."""
+    with tempfile.NamedTemporaryFile() as tokens, Hosted("--tokens", written(tokens, b"secret *\nother 0\n")) as host:
+        said = told_until_the_end(host, b"token a\nhorizon\ntoken b\ntoken c\ntoken secret\nhorizon\n" + b"token d\n" * 10_000)
+        same(said, b"refused 13\n" * 4, "what is told behind guesses")
+        talk = host.talk()
+        talk.tell(("token a", "refused 13"), ("token secret", "may *"), ("token b", "refused 13"), ("token other", "may 0"), ("horizon", "horizon 0 0 0"))
+        same((talk.ask("token c"), talk.end()), ("refused 13", b""), "the third wrong token")
+        web = Web(host.address)
+        same(web.ask("token a", "token b", "token c"), ["refused 13"] * 3, "three wrong tokens over WebSocket")
+        same(web.closed(), 1001, "the code of the close")
+        web.close()
+
+
+def cross_site():
+    """What a browser says that it asks for a page of another site is refused, unless that page's origin is allowed."""
+    upgrade = ("Upgrade: websocket", "Connection: Upgrade", "Sec-WebSocket-Key: dGhlIHNhbXBsZSBub25jZQ==", "Sec-WebSocket-Version: 13")
+    allowed, other = "Origin: https://game.example", "Origin: https://evil.example"
+    with Hosted("--allow-origin", "https://game.example", remarks=["pages refused: "]) as host:
+        for headers, status in ((("cross-site",), 403), (("Cross-Site",), 403), (("cross-site", allowed), 200), (("cross-site", other), 403),
+                                (("same-site",), 200), (("same-site", other), 403), (("same-origin",), 200), (("none",), 200)):
+            sent = (f"Sec-Fetch-Site: {headers[0]}", *headers[1:])
+            for path in ("/", "/healthz", "/metrics", "/program.json"):
+                same(hosting.get(host.address, path, *sent)[0], status, f"{path} with {sent}")
+            same(Web(host.address, headers=sent).status, 101 if status == 200 else status, f"an upgrade with {sent}")
+        old = f"GET /ws HTTP/1.0\r\nHost: {HOST}:{host.port}\r\n" + "".join(it + "\r\n" for it in upgrade) + "\r\n"
+        holds(hosting.http(host.address, old.encode()).split(b" ")[1] == b"400", "an upgrade over HTTP/1.0 is 400")
+
+
+CASES = [web_floods, newest_ping, neither_lines_nor_requests, lying_peer, guesses, cross_site]

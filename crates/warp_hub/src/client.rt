@@ -3,6 +3,7 @@ ghost use Rattle.std.specs.Prelude.{◌≡◌, ◌+◌, ◌<◌, ◌≤◌, IsTr
 ghost use Rattle.warp_record.specs.declared.line.Line.{Line};
 ghost use Rattle.warp_hub.specs.Hub.{IsSentWith, LaneRuns, most_lines};
 ghost use Rattle.warp_hub.specs.Rights.{may_send};
+ghost use Rattle.warp_hub.specs.Tokens.{most_wrong};
 ghost use Rattle.warp_hub.specs.declared.client.Phase.TheVariants.{Stalled};
 
 use crate::asker::ClientId;
@@ -27,6 +28,9 @@ const MOST_IN_FLIGHT: u32 = 256;
 
 /// While so many bytes are to be written, no line is taken and no page of its own is asked for.
 pub(crate) const MOST_UNREAD: usize = 65_536;
+
+/// Behind so many wrong tokens a client is over.
+const MOST_WRONG: u32 = 3;
 
 /// The answer to what may not be sent.
 const NOT_ALLOWED: &[u8] = b"refused 13\n";
@@ -94,6 +98,8 @@ pub(crate) struct Client {
     pub(crate) is_ending: bool,
     pub(crate) is_over: bool,
     pub(crate) is_slow: bool,
+    /// How many wrong tokens it said.
+    wrong: u32,
     ghost allowed: { (said : Line) → phase ≡ Stalled said → IsTrue (may_send rights said) },
 }
 
@@ -112,6 +118,7 @@ impl Client {
             is_ending: false,
             is_over: false,
             is_slow: false,
+            wrong: 0,
         }
     }
 
@@ -401,7 +408,7 @@ impl Client {
             Saying::Word(word) => self.answer_word(commons, word),
             Saying::Look(look) => self.answer_look(commons, board, look),
             Saying::Token(Some(rights)) => self.grant(commons, rights),
-            Saying::Token(None) => self.refuse_with(commons, NOT_ALLOWED),
+            Saying::Token(None) => self.refuse_token(commons),
             Saying::Refuse(refusal) => self.refuse(commons, refusal),
             Saying::NotAllowed => self.refuse_with(commons, NOT_ALLOWED),
             Saying::NotDurable => self.refuse_with(commons, NOT_DURABLE),
@@ -435,6 +442,19 @@ impl Client {
     {
         commons.count_refusal();
         self.write(refusal);
+    }
+
+    /// Refuses a wrong token. Behind a few of them the client is over.
+    fn refuse_token(&mut self, commons: &mut Commons)
+        ensures board { commons.new.reader ≡ commons.old.reader }
+        ensures rights { self.new.rights ≡ self.old.rights }
+        ensures most { most_wrong ≤ self.old.wrong + 1 → IsTrue self.new.is_over }
+    {
+        self.refuse_with(commons, NOT_ALLOWED);
+        self.wrong = self.wrong.saturating_add(1);
+        if self.wrong >= MOST_WRONG {
+            self.is_over = true;
+        }
     }
 
     /// Takes on these rights, and tells them.

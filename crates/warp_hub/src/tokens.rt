@@ -1,9 +1,9 @@
 //! Tokens: who may send what, as a file says it. They are kept and compared as digests.
 
-ghost use Rattle.std.specs.Prelude.{◌≡◌};
+ghost use Rattle.std.specs.Prelude.{◌≡◌, IfSome, OnErr, OnOk};
 ghost use Rattle.std.specs.Str.{bytes_eq};
 ghost use Rattle.sha2.specs.Sha256.{sha256};
-ghost use Rattle.warp_hub.specs.Tokens.{rights_of};
+ghost use Rattle.warp_hub.specs.Tokens.{IsAdded, IsEntry, SaysRights, rights_of};
 
 use crate::rights::{MOST_ORIGINS, Rights};
 use crate::words::is_token;
@@ -81,8 +81,13 @@ fn read_origins(form: Form, text: &[u8]) -> Option<[bool; MOST_ORIGINS]> {
     Some(origins)
 }
 
+/// The most bytes of a token that a line of 128 bytes can say.
+const LONGEST_SAID: usize = 122;
+
 /// What the second word of a line says.
-fn read_rights(form: Form, text: &[u8]) -> Option<Rights> {
+fn read_rights(form: Form, text: &[u8]) -> Option<Rights>
+    ensures { IfSome result (SaysRights text.now) }
+{
     if is_keyword(text, b"*") {
         return Some(Rights::All);
     }
@@ -93,10 +98,12 @@ fn read_rights(form: Form, text: &[u8]) -> Option<Rights> {
 }
 
 /// The token and the rights that a line has.
-fn read_entry(form: Form, line: &[u8]) -> Option<(&[u8], Rights)> {
+fn read_entry(form: Form, line: &[u8]) -> Option<(&[u8], Rights)>
+    ensures { IfSome result (λ entry. IsEntry line.now entry.0.now entry.1) }
+{
     let space = line.iter().position(|byte| *byte == b' ')?;
     let token = &line[..space];
-    if !is_token(token) {
+    if !is_token(token) || token.len() > LONGEST_SAID {
         return None;
     }
     let rights = read_rights(form, &line[space + 1..])?;
@@ -130,7 +137,10 @@ impl Tokens {
     }
 
     /// Takes on the line with this number.
-    fn add(&mut self, form: Form, line: &[u8], number: u32) -> Result<(), TokensFault> {
+    fn add(&mut self, form: Form, line: &[u8], number: u32) -> Result<(), TokensFault>
+        ensures added { OnOk result (IsAdded line.now self.old self.new) }
+        ensures err { OnErr result (self.new ≡ self.old) }
+    {
         let Some((token, rights)) = read_entry(form, line) else {
             return Err(TokensFault::Line(number));
         };

@@ -11,8 +11,8 @@ use warp_hub::{Tokens, TokensFault};
 use warp_record::read_u32;
 use warp_step::Program;
 
-/// The most bytes of a token.
-const MOST_TOKEN: usize = 128;
+/// The most bytes of a token: a line of 128 bytes can say no longer one.
+const MOST_TOKEN: usize = 122;
 
 /// The tokens in the text of the file of tokens, if there is one: one at least, and no origin that the program does not
 /// have.
@@ -106,7 +106,7 @@ fn tell_bad_line<X: Eprint>(rt: &X, file: &TokenText, line: u32, origins: u32) {
     }
 }
 
-/// Whether a token stands in front of the first space of a line: 1 to 128 bytes of `!` to `~`.
+/// Whether a token stands in front of the first space of a line: 1 to 122 bytes of `!` to `~`.
 fn has_token(line: &[u8]) -> bool {
     match parts_of(line) {
         Some((token, _)) => {
@@ -126,6 +126,6 @@ fn why_none(line: &[u8]) -> &'static str {
     } else if has_token(line) {
         "behind the token is neither * nor read nor ORIGIN[,ORIGIN].."
     } else {
-        "a token is 1 to 128 characters from ! to ~"
+        "a token is 1 to 122 characters from ! to ~"
     }
 }

@@ -5,7 +5,7 @@ ghost use Rattle.std.specs.Option.{is_some};
 ghost use Rattle.warp_host.specs.Listening.{MayListen};
 ghost use Rattle.warpd.specs.Outcome.{KeepsFromHosting};
 
-use crate::origins::is_origin;
+use crate::origins::{is_address, is_origin};
 use crate::outcome::{Outcome, TokenFile};
 use crate::telling::{tell_file, tell_line, tell_of_file, tell_peers, tell_shown, tell_word};
 use std::alloc::{AllocError, Global};
@@ -25,8 +25,11 @@ const LONGEST_WAIT: u64 = 60_000;
 /// The most bytes of a file of tokens.
 const LONGEST_TOKENS: u64 = 1_048_576;
 
-/// The bits of a file's mode that let the group or others read it.
-const OTHERS_READ: u32 = 0o044;
+/// The most bytes of a token that a line of 128 bytes can say.
+const LONGEST_SAID: usize = 122;
+
+/// The bits of a file's mode that let the group or others read or write it.
+const OTHERS_MAY: u32 = 0o066;
 
 /// A file of tokens.
 #[derive(Drop)]
@@ -72,7 +75,7 @@ fn address_of<X: Eprint>(rt: &X, word: Option<&str>) -> Result<SocketAddr, Outco
     }
 }
 
-/// All bytes of a file of tokens, which others may not read.
+/// All bytes of a file of tokens, which others may neither read nor write.
 fn token_bytes<X: Files + Eprint>(
     rt: &X,
     alloc: Global,
@@ -107,7 +110,7 @@ fn file_bytes<X: Eprint, O: OpenFile + Read + Drop>(
             return Err(Outcome::NoTokens(which));
         }
     };
-    if mode & OTHERS_READ != 0 {
+    if mode & OTHERS_MAY != 0 {
         tell_shown(rt, name, mode);
         return Err(Outcome::ShownTokens(which));
     }
@@ -146,7 +149,8 @@ fn tokens_of<X: Files + Eprint>(
 fn peer_token(line: &[u8]) -> Option<(&[u8], &[u8])> {
     let space = line.iter().position(|byte| *byte == b' ')?;
     let token = &line[space + 1..];
-    if space == 0 || token.is_empty() || !token.iter().all(|byte| byte.is_ascii_graphic()) {
+    let fits = !token.is_empty() && token.len() <= LONGEST_SAID;
+    if space == 0 || !fits || !token.iter().all(|byte| byte.is_ascii_graphic()) {
         return None;
     }
     Some((&line[..space], token))
@@ -208,6 +212,17 @@ fn has_no_origin<X: Eprint>(rt: &X, words: &[&str]) -> bool {
     false
 }
 
+/// Whether one of these words is no place of a peer. The first is told.
+fn has_no_peer<X: Eprint>(rt: &X, words: &[&str]) -> bool {
+    for word in words {
+        if !is_address((*word).as_bytes()) {
+            tell_word(rt, "--peer", *word, "no host with a port");
+            return true;
+        }
+    }
+    false
+}
+
 /// The origins that these words are.
 fn origins_of<X: Eprint>(rt: &X, alloc: Global, words: &[&str]) -> Result<Vec<String>, Outcome>
     ensures { IfErr result KeepsFromHosting }
@@ -239,6 +254,9 @@ fn peers_with_tokens<X: Files + Eprint>(
     if job.peers.len() > MOST_PEERS {
         tell_peers(rt, job.peers.len(), MOST_PEERS);
         return Err(Outcome::TooManyPeers);
+    }
+    if has_no_peer(rt, &job.peers) {
+        return Err(Outcome::NoPeer);
     }
     let text = match tokens_of(rt, alloc, job.peer_tokens, TokenFile::Peers)? {
         Some(file) => file.text,
