@@ -1,3 +1,4 @@
+pub mod Handing
 pub mod Listening
 pub mod Names
 pub mod Speech

@@ -1,4 +1,8 @@
 //! The way of new records from the executor to the journal's thread.
+ghost use Rattle.std.specs.Prelude.{◌≡◌, ◌+◌, ◌++◌, ◌∷◌, [], IfSome, IfNone, MatchBool};
+ghost use Rattle.rtrb.specs.Ring.{sent};
+ghost use Rattle.warp_table.specs.Log.{IsAt};
+ghost use Rattle.warp_host.specs.Handing.{as_handed};
 
 use crate::durable::Durable;
 use rtrb::Producer;
@@ -13,7 +17,7 @@ pub(crate) const RING_ROOM: usize = 4_096;
 /// the so-manieth time.
 #[derive(Clone, Copy)]
 pub(crate) struct Handed {
-    pub(crate) record: Record,
+    pub(crate) entry: Record,
     pub(crate) beginning: u32,
 }
 
@@ -48,21 +52,49 @@ impl<'a> Handing<'a> {
         }
     }
 
+    /// Hands this record, where there is room; whether it did.
+    fn push(&mut self, entry: &Record) -> bool
+        ensures pushed { MatchBool result
+            (sent self.new.ring ≡ sent self.old.ring ++ as_handed entry.now self.old.beginnings ∷ [])
+            (sent self.new.ring ≡ sent self.old.ring) }
+        ensures count { self.new.count ≡ self.old.count }
+        ensures beginnings { self.new.beginnings ≡ self.old.beginnings }
+    {
+        let beginning = self.beginnings;
+        self.ring
+            .push(Handed {
+                entry: *entry,
+                beginning,
+            })
+            .is_ok()
+    }
+
+    /// Hands the next record of the log, where there is one and room for it; which that was.
+    fn hand_next<T: Timeline>(&mut self, replica: &Replica<T>) -> Option<Record>
+        ensures next { IfSome result (λ said. IsAt replica.now.records (self.old.count + 1) said
+            × (sent self.new.ring ≡ sent self.old.ring ++ as_handed said self.old.beginnings ∷ [])) }
+        ensures count { IfSome result (λ _. self.new.count ≡ self.old.count + 1) }
+        ensures none { IfNone result ((sent self.new.ring ≡ sent self.old.ring) × (self.new.count ≡ self.old.count)) }
+        ensures beginnings { self.new.beginnings ≡ self.old.beginnings }
+    {
+        let next = self.count.checked_add(1)?;
+        let entry = replica.entry(next)?;
+        if !self.push(&entry) {
+            return None;
+        }
+        self.count = next;
+        Some(entry)
+    }
+
     /// Hands the records of the log that are new, as far as there is room, and wakes the journal's thread; whether
     /// there were any.
     pub(crate) fn hand<T: Timeline>(&mut self, replica: &Replica<T>) -> bool {
         self.begin_anew();
         let mut found = false;
         for _ in 0..RING_ROOM {
-            if self.ring.is_full() {
+            if self.hand_next(replica).is_none() {
                 break;
             }
-            let Some(record) = replica.entry(self.count.saturating_add(1)) else {
-                break;
-            };
-            let beginning = self.beginnings;
-            let _ = self.ring.push(Handed { record, beginning });
-            self.count = self.count.saturating_add(1);
             found = true;
         }
         if found {

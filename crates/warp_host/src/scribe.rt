@@ -64,7 +64,7 @@ impl<'a> Scribe<'a> {
         for _ in 0..RING_ROOM {
             let handed = self.handed.pop().ok()?;
             if handed.beginning == self.beginnings {
-                return Some(handed.record);
+                return Some(handed.entry);
             }
         }
         None
