@@ -1,6 +1,6 @@
 //! Frames of WebSocket that were not sent yet, of which there is a most.
 
-ghost use Rattle.std.specs.Prelude.{◌≡◌, ◌==◌, ◌≤◌, [], drop, length, nat_lt};
+ghost use Rattle.std.specs.Prelude.{◌≡◌, ◌==◌, ◌≤◌, ◌++◌, [], OnOk, drop, length, nat_lt};
 ghost use Rattle.bytes.specs.Unread.{IsChunkOf};
 ghost use Rattle.warp_host.specs.Held.{most_framed};
 
@@ -73,7 +73,9 @@ impl Framed {
     }
 
     /// Adds a frame that asks, answers or closes. The connection is to go where there is no room or no memory for it.
-    pub(crate) fn add(&mut self, frame: &[u8]) -> Result<(), Gone> {
+    pub(crate) fn add(&mut self, frame: &[u8]) -> Result<(), Gone>
+        ensures { OnOk result (self.new.frames.items ≡ self.old.frames.items ++ frame.now) }
+    {
         if frame.len() > MOST_FRAMED - self.frames.len() {
             return Err(Gone);
         }

@@ -135,8 +135,7 @@ impl Web {
         }
         self.take_kept(post)?;
         if self.may_read() {
-            self.read(socket, buffer, now)?;
-            self.take_kept(post)?;
+            self.read(socket, post, buffer, now)?;
         }
         let is_done = self.is_closing || (socket.has_ended && !self.has_frames && !self.waits());
         if is_done && !self.has_ended {
@@ -175,16 +174,29 @@ impl Web {
         Ok(())
     }
 
-    /// Reads once, as many bytes as a frame may still have.
-    fn read(&mut self, socket: &mut Socket, buffer: &mut [u8], now: Duration) -> Result<(), Gone> {
+    /// Reads once, as many bytes as a frame may still have, and takes the frames that are whole. Where nothing was kept they
+    /// are taken where they were read, and only what is left is kept.
+    fn read(
+        &mut self,
+        socket: &mut Socket,
+        post: &mut Post<'_>,
+        buffer: &mut [u8],
+        now: Duration,
+    ) -> Result<(), Gone> {
         let room = self.input.room().min(buffer.len());
         let count = socket.read(&mut buffer[..room])?;
         if count == 0 {
             return Ok(());
         }
         self.heard = now;
-        self.has_frames = true;
-        self.input.keep(&buffer[..count])
+        if !self.input.is_empty() {
+            self.has_frames = true;
+            self.input.keep(&buffer[..count])?;
+            return self.take_kept(post);
+        }
+        let frames = self.take_frames(post, &mut buffer[..count])?;
+        self.has_frames = !frames.is_short && frames.used < count;
+        self.input.keep(&buffer[frames.used.min(count)..count])
     }
 
     /// Takes frames from the front of these bytes, as long as they are whole, the hub takes their lines and the client is
