@@ -4,6 +4,8 @@ import re
 
 WORDS = re.compile(r"\s+|[A-Za-z_]\w*|\d+|\{=|=\}|->|.", re.S)
 LONGEST = 2500
+# What a terminal obeys, or turns round.
+OBEYED = ["\x1b[31m", "\x00", "\x9b2J", "\u202e"]
 
 
 class Spoiler:
@@ -18,7 +20,9 @@ class Spoiler:
         for _ in range(dice.choice([1, 1, 1, 2, 3])):
             place, other = (dice.randrange(len(words)) for _ in range(2))
             kind = dice.random()
-            if kind < 0.35 and words[1:]:
+            if dice.random() < 0.05:
+                words.insert(place, dice.choice(OBEYED))
+            elif kind < 0.35 and words[1:]:
                 del words[place]
             elif kind < 0.6:
                 words[place] = dice.choice(self.words)

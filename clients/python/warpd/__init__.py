@@ -55,7 +55,7 @@ LONGEST, SHOWN = 1 << 22, 200
 # No program has more, of any version.
 MOST_ORIGINS, MOST_VARIABLES = 64, 256
 # Refusals that pass: the line may be sent again.
-FOR_NOW = (8, 10, 14)
+FOR_NOW, NOT_ALLOWED = (8, 10, 14), 13
 SYNTAX, FULL = 1, 7
 # So many tags a block has at most.
 BLOCK = 1_024
@@ -478,7 +478,8 @@ class Client:
         return self.horizon().log
 
     def shape(self) -> Shape:
-        """What can be seen of the server's program: what is asked for past its end is refused."""
+        """What can be seen of the server's program: what is asked for past its end is refused. A host that wants a token
+        shows nothing: that is a `Refused`."""
         # A program of version 1 has no line for its origin 32.
         narrow = self._refusal(f"breach {MOST_ORIGINS - 1}") == 1
         return Shape(narrow, self._first_refused("breach", MOST_ORIGINS), self._first_refused("var", MOST_VARIABLES))
@@ -499,7 +500,7 @@ class Client:
         try:
             self.ask(line)
         except Refused as refused:
-            if refused.number in FOR_NOW:
+            if refused.number in FOR_NOW or refused.number == NOT_ALLOWED:
                 raise
             return refused.number
         return None

@@ -11,7 +11,12 @@ from . import Carrier, Differ, spelled
 USAGE = """usage: python3 -m warpd carry [--until-equal] HOST:PORT HOST:PORT..
        python3 -m warpd feed --server HOST:PORT --stream URL [--state FILE] [--token-file FILE] [-- COMMAND..]
        python3 -m warpd compile FILE.lf [-o FILE.json]
-       python3 -m warpd compile --back FILE.json [-o FILE.lf]"""
+       python3 -m warpd compile --back FILE.json [-o FILE.lf]
+       python3 -m warpd compile --test FILE.lf [TESTS..]
+       python3 -m warpd compile --format FILE.lf..
+       python3 -m warpd compile --picture FILE.lf [-o FILE.svg]
+       python3 -m warpd compile --watch FILE.lf [-o FILE.json]
+       python3 -m warpd compile --lsp"""
 SYSTEM = "/usr/bin/python3"
 
 

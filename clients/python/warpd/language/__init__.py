@@ -16,12 +16,13 @@ from typing import NamedTuple, Optional
 
 from .faults import Report
 from .files import shown
+from .model import Program
 from .program import program_of
-from .sources import Sources
-from .tree import At
+from .sources import Reader, Sources
+from .tree import At, File
 from .writing import text_of
 
-__all__ = ["Compiled", "compiled", "text_of"]
+__all__ = ["Compiled", "Read", "compiled", "read", "text_of"]
 
 MOST_BYTES = 1_048_576
 
@@ -34,20 +35,36 @@ class Compiled(NamedTuple):
     report: Report
 
 
-def compiled(text: str, file: str = "program.lf", folder: Optional[Path] = None) -> Compiled:
-    """The program of a text; `file` is how its faults name it. What it imports is read from below this folder, that of
-    the file where it is not given."""
+class Read(NamedTuple):
+    """A text as the compiler has it: with its reactors, instances and connections. The program means nothing where the
+    report has an error, and is None where the text's structure has one; then there is no `file` either."""
+
+    program: Optional[Program]
+    report: Report
+    file: Optional[File] = None
+
+
+def read(text: str, file: str = "program.lf", folder: Optional[Path] = None, reader: Optional[Reader] = None) -> Read:
+    """What the compiler makes of a text; `file` is how its faults name it. What it imports is read from below this
+    folder, that of the file where it is not given, by `reader`."""
     report = Report(file, text)
-    program = None
+    program = tree = None
     try:
-        sources = Sources(folder or Path(file).parent, report)
+        sources = Sources(folder or Path(file).parent, report, reader)
         tree = sources.read(text)
         program = tree and program_of(tree, sources, report)
     except RecursionError:
         report.error(At(1, 1), "the text has brackets in brackets too deep to be read")
+    if program and not report.errors and len(shown(program.file())) > MOST_BYTES:
+        size = len(shown(program.file()))
+        report.error(At(1, 1), f"the program file has {size} bytes: {MOST_BYTES} are allowed")
+    return Read(program, report, tree)
+
+
+def compiled(text: str, file: str = "program.lf", folder: Optional[Path] = None) -> Compiled:
+    """The program of a text; `file` is how its faults name it. What it imports is read from below this folder, that of
+    the file where it is not given."""
+    program, report, _ = read(text, file, folder)
     if program and not report.errors:
-        made = program.file()
-        if len(shown(made)) <= MOST_BYTES:
-            return Compiled(made, program.names(), report)
-        report.error(At(1, 1), f"the program file has {len(shown(made))} bytes: {MOST_BYTES} are allowed")
+        return Compiled(program.file(), program.names(), report)
     return Compiled(None, None, report)

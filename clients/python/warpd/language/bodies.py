@@ -2,6 +2,7 @@
 
 from __future__ import annotations
 
+import re
 from collections.abc import Iterable, Sequence
 from typing import Optional, Union
 
@@ -73,6 +74,7 @@ class BodyCheck:
 
     def is_declared(self, name: str, at: At) -> None:
         if name not in self.lists["on"] + self.lists["reads"]:
+            name = _without_channel(name, self.lists["on"] + self.lists["reads"])
             self.report.error(
                 at,
                 f"`{name}` is neither a trigger of this reaction nor among what it reads",
@@ -81,6 +83,7 @@ class BodyCheck:
 
     def is_effect(self, name: str, at: At) -> None:
         if name not in self.lists["writes"]:
+            name = _without_channel(name, self.lists["writes"])
             self.report.error(
                 at, f"`{name}` does not stand behind the `->` of this reaction", self.header("writes", name)
             )
@@ -300,3 +303,9 @@ class BodyCheck:
             self.effects.add(first.name)
             self.is_effect(first.name, first.at)
         return self.scope.types.get(first.name, INT) if isinstance(first, tree.Reference) else INT
+
+
+def _without_channel(name: str, named: Iterable[str]) -> str:
+    """The multiport of a channel where none of its channels is named, else the name."""
+    port = re.sub(r"\[\d+\]$", "", name)
+    return name if any(re.sub(r"\[\d+\]$", "", it) == port for it in named) else port

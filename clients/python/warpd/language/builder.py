@@ -6,6 +6,7 @@ import dataclasses
 
 from . import tree
 from .lexing import Word
+from .testing.building import TestBuilder
 
 UNITS = {
     "n": 1, "us": 10**3, "ms": 10**6, "s": 10**9, "mi": 60 * 10**9, "h": 3600 * 10**9, "d": 86_400 * 10**9,
@@ -20,7 +21,7 @@ def nanoseconds(text: str) -> int:
     return int(number) * next(each for word, each in UNITS.items() if unit.startswith(word))
 
 
-class Builder:
+class Builder(TestBuilder):
     """Makes the parts of the tree, from the inside out."""
 
     def file(self, target, *parts):
@@ -30,7 +31,7 @@ class Builder:
         types, functions = every(tree.Enum, tree.Struct), every(tree.Function)
         return tree.File(
             *(target or (None, ())), every(tree.Constant), every(tree.Reactor), types=types, functions=functions,
-            imports=every(tree.Import))
+            imports=every(tree.Import), tests=every(Word))
 
     def target(self, name, *properties):
         return name, tuple(it for it in properties if it)

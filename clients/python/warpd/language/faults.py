@@ -3,12 +3,15 @@
 from __future__ import annotations
 
 import difflib
+import unicodedata
 from collections.abc import Iterable
 from dataclasses import dataclass
 
 from .tree import At
 
 MOST_SHOWN = 50
+# Controls, marks of direction and the like, halves of characters, and ends of lines and paragraphs.
+OBEYED = {"Cc", "Cf", "Cs", "Zl", "Zp"}
 
 
 @dataclass(frozen=True, order=True)
@@ -61,20 +64,26 @@ class Report:
 
     def __str__(self) -> str:
         shown = sorted(self.faults)
-        texts = [self._shown(it) for it in shown[:MOST_SHOWN]]
+        texts = [self.shown(it) for it in shown[:MOST_SHOWN]]
         if len(shown) > MOST_SHOWN:
             texts.append(f"{self.file}: and {len(shown) - MOST_SHOWN} more\n")
         return "".join(texts)
 
-    def _shown(self, fault: Fault) -> str:
+    def shown(self, fault: Fault) -> str:
+        """A fault with its line."""
         line, column, width = fault.at
-        source = self.lines[line - 1].rstrip("\r") if line <= len(self.lines) else ""
+        source = plain(self.lines[line - 1].rstrip("\r")) if line <= len(self.lines) else ""
         first, file = self.files[self.number(fault.at)]
         number = f"{line - first:5}"
         blank = "".join(it if it == "\t" else " " for it in source[: column - 1]).ljust(column - 1)
-        text = f"{file}:{line - first}:{column}: {fault.kind}: {fault.text}\n{number} | {source}\n"
+        text = f"{plain(file)}:{line - first}:{column}: {fault.kind}: {plain(fault.text)}\n{number} | {source}\n"
         text += f"{' ' * len(number)} | {blank}{'^' * max(1, min(width, len(source) - column + 1))}\n"
-        return text + (f"{' ' * len(number)} = hint: {fault.hint}\n" if fault.hint else "")
+        return text + (f"{' ' * len(number)} = hint: {plain(fault.hint)}\n" if fault.hint else "")
+
+
+def plain(text: str) -> str:
+    """The text with another mark for each character that a terminal obeys in the place of showing it."""
+    return "".join("\N{REPLACEMENT CHARACTER}" if it != "\t" and unicodedata.category(it) in OBEYED else it for it in text)
 
 
 def nearest(name: str, names: Iterable[str]) -> str:

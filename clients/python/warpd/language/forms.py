@@ -39,6 +39,7 @@ class Form:
         it = self.node.raw.tree
         reactions = [self._reaction(each) for each in it.every(tree.Reaction)]
         named = {place.name.text for each in reactions for place in (*each.on, *each.reads, *each.writes)}
+        named |= self._missed(reactions)
         members = [each for each in it.members if isinstance(each, OWN)]
         members += [self._ports(each, named) for each in it.every(tree.Ports)]
         for points, is_input in ((self.heard, True), (self.fed, False)):
@@ -46,6 +47,18 @@ class Form:
                 place = tree.Place(None, tree.Name(name, it.at))
                 members.append(tree.Ports(None, is_input, (place,), _type(point), it.at))
         return dataclasses.replace(it, members=tuple(members + reactions))
+
+    def _missed(self, reactions: list[tree.Reaction]) -> set[str]:
+        """What bodies name and a header may lack, so that it is told with what was meant; in a text without faults
+        each stands in a header."""
+        headers = [place.name.text for it in reactions for place in (*it.on, *it.reads, *it.writes)]
+        if any(self._is_unknown(name) for name in headers):
+            ports = self.node.ports(Kind.INPUT) + self.node.ports(Kind.OUTPUT)
+            return {channel for port in ports for channel in self.node.channels(port)}
+        return {name for it in reactions for name in _names(it.body)} - _lets(reactions)
+
+    def _is_unknown(self, name: str) -> bool:
+        return name not in self.heard and name not in self.fed and self.node.kind(name.split("[")[0]) is None
 
     def _ports(self, it: tree.Ports, named: set[str]) -> tree.Ports:
         """Its own ports, a name for each channel; where it contains others, those alone that its reactions name."""
@@ -208,6 +221,27 @@ class Form:
         else:
             hint = f"write `{name.text}[0]` to `{name.text}[{width - 1}]`"
             self.report.error(name.at, f"`{name.text}` is {wide} of {width}", hint)
+
+
+def _parts(it: object) -> Iterator[object]:
+    """A part of a body and all that is in it."""
+    yield it
+    inner = it if isinstance(it, tuple) else vars(it).values() if dataclasses.is_dataclass(it) else ()
+    for each in inner:
+        if isinstance(each, tuple) or _is_part(each):
+            yield from _parts(each)
+
+
+def _names(body: object) -> Iterator[str]:
+    """The names that a body reads or assigns."""
+    for it in _parts(body):
+        match it:
+            case tree.Reference(name) | tree.Assign(tree.Name(name)):
+                yield name
+
+
+def _lets(reactions: list[tree.Reaction]) -> set[str]:
+    return {it.name.text for each in reactions for it in _parts(each.body) if isinstance(it, tree.Let)}
 
 
 def _is_part(it: object) -> bool:

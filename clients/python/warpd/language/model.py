@@ -5,7 +5,7 @@ from __future__ import annotations
 import re
 from collections.abc import Collection, Iterable
 from dataclasses import dataclass, field
-from typing import NamedTuple, Optional
+from typing import TYPE_CHECKING, NamedTuple, Optional
 
 from . import tree
 from .bodies import BodyCheck
@@ -15,6 +15,10 @@ from .routines import Routine
 from .scope import LONGEST_NAME, Scope
 from .tree import At
 from .types import INT, Type
+
+if TYPE_CHECKING:
+    from .connecting import Net
+    from .hierarchy import Node
 
 
 class Limits(NamedTuple):
@@ -137,7 +141,8 @@ class Shown(NamedTuple):
 class Program:
     """`unit` is in nanoseconds, None where the text states none; `origins` is 0 until it is known. `is_exact` says that
     nothing is executed behind microstep 0 of the stop, `is_whole` that there is no fault outside of reactors. `scope`
-    has what is declared there."""
+    has what is declared there, `root` the hierarchy of instances as it was written, `net` what connects them, `written`
+    the reactors with their modes, by the `id` of what is compiled of them."""
 
     at: At
     version: int = 2
@@ -153,6 +158,9 @@ class Program:
     links: list[Link] = field(default_factory=list)
     inputs: list[Owned] = field(default_factory=list)
     outputs: list[Shown] = field(default_factory=list)
+    root: Optional[Node] = None
+    net: Optional[Net] = None
+    written: dict[int, tree.Reactor] = field(default_factory=dict)
 
     @property
     def limits(self) -> Limits:

@@ -9,6 +9,8 @@ from . import refused, tree
 from .faults import Report, listed, nearest
 from .lexing import Lexer, Word
 from .tables import Stopped, grammar
+from .testing import tree as tests
+from .testing.words import KEYWORDS, collapsed, wrong_head
 from .tree import At
 from .words import in_place
 
@@ -16,14 +18,16 @@ from .words import in_place
 MOST_FAULTS = 20
 BEGINS = {
     "STATE", "INPUT", "OUTPUT", "LOGICAL", "TIMER", "REACTION", "CONST", "REACTOR", "MAIN", "ATTRIBUTE", "LET", "IF",
+    "TEST", "EXPECT", "WITHDRAW", "DRAW", "ASK",
 }
-ENDS = {"SEMICOLON", "BODY", "LBRACE", "RBRACE"}
+ENDS = {"SEMICOLON", "BODY", "LBRACE", "RBRACE", "TEST"}
 WORDS = {
     "SEMICOLON": "`;`", "LPAR": "`(`", "RPAR": "`)`", "LBRACE": "`{`", "RBRACE": "`}`", "COMMA": "`,`", "COLON": "`:`",
     "EQUALS": "`=`", "DOT": "`.`", "ARROW": "`->`", "BODY": "`{= .. =}`", "NAME": "a name", "NUMBER": "a number",
     "$END": "the end", "NEW": "`new`", "ACTION": "`action`", "REACTOR": "`reactor`", "INPUT": "`input`",
     "OUTPUT": "`output`", "TARGET": "`target warpd { stop: 100 }`", "QMARK": "`?`", "PLUS": "`+`",
-    "REACTION": "`reaction`",
+    "REACTION": "`reaction`", "STRING": "a name between quotation marks", "AT": "`at`", "TO": "`to`", "OF": "`of`",
+    "PUTS": "`puts`", "NOTHING": "`nothing`", "EVERY": "`every`", "WAY": "`order`",
 }
 
 
@@ -69,12 +73,23 @@ class Parser:
 
     def file(self) -> Optional[tree.File]:
         """The tree; None where its structure has a fault. Bodies are read in any case."""
-        words = in_place(Lexer(self.text, grammar().kinds, self.before).words())
+        words = in_place(collapsed(Lexer(self.text, grammar().kinds, self.before).words()))
         for it in words:
             if it.kind == "BODY":
                 it.value = self._body(it)
         made = self._parsed(words, "file", refused.STRUCTURE)
         return made if self.is_whole else None
+
+    def test(self, word: Word) -> Optional[tests.Block]:
+        """The tree of a `test` block; None where it has a fault."""
+        wrong = wrong_head(word.parts)
+        if wrong:
+            hint = 'write `test "NAME" {`, or `test "NAME" in every order {`'
+            self.report.error(wrong.at, f"`{wrong}` cannot stand here" if wrong.text else "the test has no end", hint)
+            return None
+        count = len(self.report.faults)
+        made = self._parsed(word.parts, "test", refused.TEST)
+        return made if len(self.report.faults) == count else None
 
     def _body(self, body: Word) -> Optional[tuple]:
         """The statements of a body; None where they have a fault."""
@@ -97,14 +112,14 @@ class Parser:
     def _mended(self, words: list[Word], stopped: Stopped, table: dict) -> list[Word]:
         """Tells what stopped the parser, and gives what is left to be read; nothing where the rest means nothing."""
         number, word = stopped.number, words[stopped.number]
-        before, in_body = words[max(number - 1, 0)], table is refused.BODY
+        before, in_body = words[max(number - 1, 0)], table is not refused.STRUCTURE
         if word.kind == "UNCLOSED":
             self.report.error(word.at, "this comment is never closed", "`*/` ends it")
             return []
         foreign = _foreign(words, number, table)
         if foreign:
             self.report.error(foreign[0].at, *foreign[1])
-        elif in_body and _lacks_semicolon(words, stopped):
+        elif in_body and _lacks_semicolon(words, stopped) and not _misspelt(words, stopped, table):
             self.report.error(before.end, "`;` is missing here")
             return [*words[:number], Word("SEMICOLON", ";", before.line, before.column), *words[number:]]
         elif not in_body and word.kind in ("REACTOR", "MAIN") and _is_in_reactor(words, stopped):
@@ -125,7 +140,7 @@ class Parser:
         word, accepted = words[stopped.number], stopped.accepted
         shown = [WORDS[it] for it in WORDS if it in accepted]
         hint = f"{listed(shown, 'or')} could stand here" if 0 < len(shown) <= 4 else ""
-        misspelt = _misspelt(words, stopped.number, table)
+        misspelt = _misspelt(words, stopped, table)
         if misspelt:
             self.report.error(misspelt[0].at, f"`{misspelt[0]}` cannot stand here", misspelt[1])
         elif word.kind == "$END":
@@ -169,10 +184,19 @@ def _foreign(words: Sequence[Word], number: int, table: dict) -> Optional[tuple]
     return None
 
 
-def _misspelt(words: Sequence[Word], number: int, table: dict) -> Optional[tuple[Word, str]]:
+def _misspelt(words: Sequence[Word], stopped: Stopped, table: dict) -> Optional[tuple[Word, str]]:
     """The word that begins what could not be read, where it is nearly one that begins a member; with a hint."""
+    number = stopped.number
     first = words[_start(words, number)]
-    if table is refused.BODY or first.kind != "NAME" or words[number].kind == "EQUALS":
+    if table is refused.TEST:
+        if words[number].kind != "NAME":
+            return None
+        near = nearest(words[number].text, [it for it, kind in KEYWORDS.items() if kind in stopped.accepted])
+        if near:
+            return words[number], near
+        near = nearest(first.text, [it for it, kind in KEYWORDS.items() if kind in BEGINS])
+        return (first, near) if near and words[number] is not first else None
+    if table is not refused.STRUCTURE or first.kind != "NAME" or words[number].kind == "EQUALS":
         return None
     near = nearest(first.text, refused.MEMBERS)
     return (first, near) if near else None

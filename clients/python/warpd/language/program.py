@@ -25,6 +25,7 @@ def program_of(file: tree.File, sources: Sources, report: Report) -> Program:
     Head(file, program, report).read()
     raws = [declared(it, program, report) for it in file.reactors]
     mains = [one for one in _named(raws, report) if one.tree.is_main]
+    program.written = sources.written
     forms = Forms([*raws, *(declared(it, program, report) for it in sources.others())], sources, program, report)
     if not mains:
         at = file.reactors[-1].at if file.reactors else file.at
@@ -34,7 +35,7 @@ def program_of(file: tree.File, sources: Sources, report: Report) -> Program:
         return program
     for second in mains[1:]:
         report.error(second.tree.at, "there is a main reactor already", f"at {report.place(mains[0].tree.at)}")
-    root = forms.of_main(mains[0])
+    root = program.root = forms.of_main(mains[0])
     forms.every()
     _connect(root, program, report)
     for it in program.instances.values():
@@ -89,7 +90,7 @@ class Forms:
 
 def _connect(root: Node, program: Program, report: Report) -> None:
     """Links what is left of the hierarchy, and gives the program its inputs and outputs."""
-    net = Net()
+    net = program.net = Net()
     for node in root.every():
         uses(node, net, report)
         Connecting(node, net, program, report).read()

@@ -51,6 +51,15 @@ BODY = {
     '"': ("warpd has no texts: each value is an integer of 64 bits", ""),
 }
 
+_EXPECTS = ("a test compares by `expect`", "write `expect door.found == 2;`, and `at 30` behind it for a time")
+TEST = {
+    **dict.fromkeys(("assert", "check", "require", "assert_eq"), _EXPECTS),
+    **dict.fromkeys(("event", "send", "inject"), ("an event is written as what it says", "write `door.push = 1 at 27;`")),
+    "after": ("a time in a test is counted from the beginning", "write `at 27`"),
+    "let": ("a test has no `let`", "`const NAME = 3` stands outside of reactors"),
+    '"': ("a text stands only as the name of a test", ""),
+}
+
 ARRAYS = ("warpd has no arrays", "a state variable for each place, and `if` or `? :` between them")
 
 # What C writes behind the name of an input or an action.

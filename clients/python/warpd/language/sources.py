@@ -2,6 +2,7 @@
 
 from __future__ import annotations
 
+from collections.abc import Callable
 from dataclasses import replace
 from pathlib import Path
 from typing import Optional
@@ -13,20 +14,29 @@ from .parsing import Parser
 from .tree import At
 
 MOST_FILES = 256
+Reader = Callable[[Path], str]
 # What is known in all files, wherever it stands.
 SHARED = ("constants", "types", "functions")
+
+
+def read_text(path: Path) -> str:
+    """The text of a file."""
+    return path.read_text(encoding="utf-8-sig")
 
 
 class Sources:
     """Reads the files. `files` has those that could be read, what a file imports before it and the text itself last;
     `homes` the reactors that each file knows, by their names there."""
 
-    def __init__(self, folder: Path, report: Report):
-        self.folder, self.report = folder, report
+    def __init__(self, folder: Path, report: Report, reader: Optional[Reader] = None):
+        """`reader` gives the text of each file that is imported."""
+        self.folder, self.report, self.reader = folder, report, reader or read_text
         self.files: list[tree.File] = []
         self.homes: dict[int, dict[str, tree.Reactor]] = {}
         self.numbers: dict[Path, int] = {}
         self.whole: dict[int, tree.Reactor] = {}
+        # Of a reactor that is compiled: what it was with its modes.
+        self.written: dict[int, tree.Reactor] = {}
         self.extended: set[str] = set()
 
     def read(self, text: str) -> Optional[tree.File]:
@@ -102,7 +112,7 @@ class Sources:
             self.report.error(it.at, f"more than {MOST_FILES} files are imported")
             return None
         try:
-            return Path(self.folder, wanted).read_text(encoding="utf-8-sig")
+            return self.reader(Path(self.folder, wanted))
         except OSError as error:
             self.report.error(it.at, f"`{it.path}` cannot be read: {error.strerror}")
         except UnicodeDecodeError:
@@ -132,7 +142,9 @@ class Sources:
             for part in ("parameters", "members"):
                 found = {id(each): each for base in bases for each in getattr(base, part)}
                 lists[part] = (*found.values(), *getattr(it, part))
-            self.whole[id(it)] = without_modes(replace(it, extends=(), **lists), self.report)
+            written = replace(it, extends=(), **lists)
+            self.whole[id(it)] = without_modes(written, self.report)
+            self.written[id(self.whole[id(it)])] = written
         return self.whole[id(it)]
 
     def _base(self, name: tree.Name, it: tree.Reactor, around: tuple[tree.Reactor, ...]) -> list[tree.Reactor]:

@@ -8,6 +8,7 @@ variable of the compiler's own says that it was reached."""
 from __future__ import annotations
 
 from collections.abc import Callable, Mapping, Sequence
+from itertools import count
 from typing import NamedTuple, Optional, Union
 
 from . import tree
@@ -25,10 +26,13 @@ MOST_NESTED = 8
 
 
 class Label:
-    """The end of a body, of a loop or of a turn, to which a `return`, `break` or `continue` leads."""
+    """The end of a body, of a loop or of a turn, to which a `return`, `break` or `continue` leads. Those that were made
+    first have the least `number`."""
+
+    numbers = count()
 
     def __init__(self, at: At):
-        self.flag, self.is_flagged = Cell(at), False
+        self.flag, self.is_flagged, self.number = Cell(at), False, next(self.numbers)
 
 
 class Mark(NamedTuple):
@@ -133,7 +137,8 @@ class Body(Maker):
         for item in items:
             rest: list = []
             test: Value = 0
-            for label in labels:
+            # In one order, so that a text always makes the same program.
+            for label in sorted(labels, key=lambda it: it.number):
                 label.is_flagged = True
                 test = label.flag if test == 0 else made("or", test, label.flag)
             before, self.out = self.out, rest

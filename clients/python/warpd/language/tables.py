@@ -17,7 +17,7 @@ from typing import Any, NamedTuple, Optional, Union
 from .lexing import SIGNS, Word
 
 GRAMMAR = Path(__file__).with_name("grammar.lark")
-STARTS = ("file", "body")
+STARTS = ("file", "body", "test")
 
 
 class Stopped(Exception):

@@ -347,6 +347,8 @@ class File:
     types: tuple[Union[Enum, Struct], ...] = ()
     functions: tuple[Function, ...] = ()
     imports: tuple[Import, ...] = ()
+    # The `test` blocks, as words: the compiler passes them over.
+    tests: tuple = ()
 
     @property
     def at(self) -> At:

@@ -1,0 +1,2 @@
+" Texts of warpd's programs.
+autocmd BufRead,BufNewFile *.lf setfiletype warpd
