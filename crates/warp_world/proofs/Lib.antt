@@ -13,8 +13,3 @@ pub mod OneSchedule
 pub mod ReleasedByTwo
 pub mod LogsOfFronts
 pub mod Printings
-pub mod TraceTurns
-pub mod TraceText
-pub mod TraceItems
-pub mod LogTraces
-pub mod TraceRows

@@ -4,8 +4,4 @@ pub mod Moves
 pub mod Schedule
 pub mod Replicas
 pub mod Play
-pub mod Labels
-pub mod Trace
-pub mod Printed
-pub mod Recorded
 pub mod inner

@@ -1,0 +1,5 @@
+pub mod TraceTurns
+pub mod TraceText
+pub mod TraceItems
+pub mod LogTraces
+pub mod TraceRows

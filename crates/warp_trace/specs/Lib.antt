@@ -1,0 +1,5 @@
+pub mod Labels
+pub mod Trace
+pub mod Printed
+pub mod Recorded
+pub mod inner

@@ -1,0 +1,62 @@
+//! The names that a trace writes in the place of numbers.
+ghost use Rattle.std.specs.Prelude.{◌≡◌, map, string_bytes};
+
+use std::marker::Model;
+
+/// The names of a program's parts, each list by number. A number that its list does not reach is written as `?` and
+/// the number. Names stand in JSON as they are: of letters, digits, `_` and `.`, they need no escape.
+#[derive(Drop)]
+pub struct Labels {
+    pub(crate) variables: Vec<String>,
+    pub(crate) inputs: Vec<String>,
+    pub(crate) outputs: Vec<String>,
+    pub(crate) timers: Vec<String>,
+    pub(crate) actions: Vec<String>,
+    pub(crate) ports: Vec<String>,
+}
+
+impl Model for Labels {
+    ghost use Rattle.std.specs.Prelude.{map, string_bytes};
+    ghost use Rattle.warp_trace.specs.Labels.{Names};
+
+    ghost Value = { Names };
+
+    ghost view = { λ l. record {
+      variables = map string_bytes l.variables.items;
+      inputs = map string_bytes l.inputs.items;
+      outputs = map string_bytes l.outputs.items;
+      timers = map string_bytes l.timers.items;
+      actions = map string_bytes l.actions.items;
+      ports = map string_bytes l.ports.items;
+    } };
+}
+
+impl Labels {
+    /// These names: of the variables, of the program's inputs and outputs, of the timers, the actions and the ports.
+    pub fn new(
+        variables: Vec<String>,
+        inputs: Vec<String>,
+        outputs: Vec<String>,
+        timers: Vec<String>,
+        actions: Vec<String>,
+        ports: Vec<String>,
+    ) -> Labels
+        ensures { result ≡ record {
+          variables = map string_bytes variables.items;
+          inputs = map string_bytes inputs.items;
+          outputs = map string_bytes outputs.items;
+          timers = map string_bytes timers.items;
+          actions = map string_bytes actions.items;
+          ports = map string_bytes ports.items;
+        } }
+    {
+        Labels {
+            variables,
+            inputs,
+            outputs,
+            timers,
+            actions,
+            ports,
+        }
+    }
+}

@@ -1,8 +1,0 @@
--- the runs that are left add what all add
-use Rattle.std.proofs.Common.{◌≡◌, ◌++◌, ◌*◌}
-use Rattle.warp_world.specs.Trace.{changed}
-use Rattle.warp_world.specs.inner.Tracing.{changed_from}
-use Rattle.warp_world.proofs.item.gather_others.Given as goal
-
-abbrev pub invariant-loop-number : goal.invariant-loop-number
-invariant-loop-number l = l.items.items ++ changed_from l.before l.after (l.number * 8) ≡ changed l.before l.after

@@ -1,7 +1,0 @@
--- what is left adds what all add
-use Rattle.std.proofs.Common.{◌≡◌, ◌++◌, drop}
-use Rattle.warp_world.specs.Trace.{put}
-use Rattle.warp_world.proofs.item.gather_put.Given as goal
-
-abbrev pub invariant-loop-output : goal.invariant-loop-output
-invariant-loop-output l = l.items.items ++ put (drop l.output-index l.outputs) ≡ put l.outputs
