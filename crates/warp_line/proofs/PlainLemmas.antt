@@ -1,5 +1,5 @@
 -- What a change of its table does to what a `Plain` stands for.
-use Rattle.std.proofs.Common.{◌≡◌, ℕ, ◌+◌, ◌≤◌, length, List, [], ap, sym, subst, ◌∙◌, refl, arith, IsTrue, Bool, true, false, not, ◌&&◌, None, inl, inr}
+use Rattle.std.proofs.Common.{◌≡◌, ◌↔◌, ℕ, ◌+◌, ◌<◌, ◌≤◌, length, List, [], ap, sym, subst, ◌∙◌, refl, arith, IsTrue, Bool, true, false, not, ◌&&◌, None, inl, inr}
 use Rattle.std.specs.Prelude.{MatchBool}
 use Rattle.std.specs.List.{list_all}
 use Rattle.std.proofs.Math.Bool.{and-true, and-false}
@@ -16,18 +16,22 @@ use Rattle.warp_step.specs.Run.{Row, Run}
 use Rattle.warp_step.specs.Valid.{is_valid}
 use Rattle.warp_step.proofs.TagsOfRun.{few_rows}
 use Rattle.warp_step.proofs.ValidLemmas.{validity}
+use Rattle.warp_step.proofs.TraceExists.{exists}
 use Rattle.warp_step.proofs.TraceLemmas.{one_rest}
 use Rattle.warp_line.specs.Timeline.{Standing, IsDone, NowStands, Settles, rows_before, lesser}
 use Rattle.warp_step.specs.Events.{event_fits}
 use Rattle.warp_line.specs.Plain.{StandsFor, IsRun}
 use Rattle.warp_line.specs.declared.plain.Plain.{Plain}
+use Rattle.warp_line.specs.declared.progress.Progress.{Progress}
+use Rattle.warp_line.specs.declared.progress.Progress.TheVariants.{Settled, Paused}
 
 -- where it is settled all rows are done
 pub run_of : (p : Plain) (m : Standing) → p.settled ≡ true → StandsFor p m → IsRun p m
 run_of p m settled h = subst (λ (b : Bool). MatchBool b (IsRun p m) (m.done ≡ [])) settled h.rows
 
 -- a settled value is settled again at no cost
-pub settled_stands : (p : Plain) (m : Standing) → p.settled ≡ true → StandsFor p m → (done : List Row) × Settles StandsFor p m 0 done × IsDone (record m { done = done })
+pub settled_stands : (p : Plain) (m : Standing) → p.settled ≡ true → StandsFor p m
+    → (done : List Row) × Settles StandsFor p m 0 done × (Settled ≡ Settled ↔ IsDone (record m { done = done }))
 settled_stands p m settled h =
     let r = run_of p m settled h in (
       m.done,
@@ -39,8 +43,35 @@ settled_stands p m settled h =
             let lengths : length trace ≡ length m.done = ap length same in
             omega arith;
       },
-      r.done,
+      ((λ settled. r.done), (λ done. refl)),
     )
+
+-- where more rows wait than were executed nothing is known to be done
+pub paused_stands : (p : Plain) (m : Standing) (ticks : ℕ) → p.settled ≡ false → StandsFor p m → ((trace : List Row) → Run m.program (live m.table) trace → ticks < length trace)
+    → (done : List Row) × Settles StandsFor p m ticks done × (Paused ≡ Settled ↔ IsDone (record m { done = done }))
+paused_stands p m ticks unsettled h waits =
+    let none : m.done ≡ [] = MatchBool-at_false _ _ unsettled h.rows in
+    let lengths : length m.done ≡ 0 = ap (λ (rows : List Row). length rows) none in (
+      m.done,
+      record {
+        stands = h;
+        kept = omega arith;
+        bound = λ trace run. let more = waits trace run in omega arith;
+      },
+      ((λ settled. cc), (λ done. let more = waits m.done done in absurd (omega arith))),
+    )
+
+-- no run has more rows than there may be names
+pub all_settled : (q : Plain) (m : Standing) (ticks most : ℕ) (done : List Row) (p : Progress) → Settles StandsFor q m ticks done → most_names < most → (p ≡ Paused → ticks ≡ most)
+    → p ≡ Settled
+all_settled q m ticks most done Settled s more is = refl
+all_settled q m ticks most done Paused s more is =
+    let limits = (validity m.program s.stands.program).limits in
+    let trace = exists m.program (live m.table) in
+    let few : length trace.0 ≤ most_names = few_rows m.program (live m.table) trace.0 limits.stop limits.top s.stands.events trace.1 in
+    let bound = s.bound trace.0 trace.1 in
+    let ticked = is refl in
+    absurd (omega arith)
 
 -- a valid program has few rows before any tag
 few_before : (P : Program) (E : List Event) (trace : List Row) (u : Moment) (n : ℕ) → IsTrue (is_valid P) → IsTrue (list_all (event_fits P) E) → Run P E trace → rows_before u trace ≤ n + most_names

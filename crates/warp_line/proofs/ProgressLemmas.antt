@@ -1,5 +1,6 @@
 -- How far a replay has come: a front of the table, and the front of the run over it.
-use Rattle.std.proofs.Common.{◌≡◌, inl, inr, ℕ, ◌+◌, ◌-◌, ◌<◌, ◌≤◌, length, List, ◌++◌, ◌∷◌, [], take, drop, map, ap, sym, subst, ◌∙◌, refl, rules, arith, IsTrue, true, false, not, ◌||◌, nat_lt, Option, Some, None, append_assoc, take-append-drop, length-append}
+use Rattle.std.proofs.Common.{◌≡◌, inl, inr, ℕ, ◌+◌, ◌-◌, ◌<◌, ◌≤◌, length, List, ◌++◌, ◌∷◌, [], take, drop, map, ap, sym, subst, ◌∙◌, refl, rules, arith, IsTrue, Bool, true, false, not, ◌||◌, nat_lt, Option, Some, None, append_assoc, take-append-drop, length-append}
+use Rattle.std.specs.Prelude.{if◌then◌else◌}
 use Rattle.std.specs.List.{list_all, list_any}
 use Rattle.std.proofs.lemmas.Bool.{cases_Bool}
 use Rattle.std.proofs.lemmas.Bool.Decides.{nat_tests}
@@ -160,6 +161,35 @@ passed P entries rest s s' outs outs' before now now' n t p passes idle goes =
       later = all_tags_drop (is_after p.last) n rest p.later;
     }
 
+-- where something waits at the tag, that is the next one
+next_there : (P : Program) (entries rest : List Entry) (s : Snapshot) (outs : List Out) (before now n : ℕ) (t : Moment) (p : Progress P entries rest s outs before now) → Passes t rest n
+    → IsTrue (none_before t s.pending) → is_waiting t (map given_of (live (take n rest))) s.pending ≡ true → IsNext (live entries) p.last s t
+next_there P entries rest s outs before now n t p passes none waiting =
+    let A = live p.front in
+    let G = live (take n rest) in
+    let B = live (drop n rest) in
+    let split_up : live entries ≡ A ++ (G ++ B) = parts entries p.front rest n p.whole in
+    let after : is_after p.last t ≡ true = waiting_after p.last t (take n rest) s.pending (all_tags_take (is_after p.last) n rest p.later) passes.here p.pending waiting in
+    let at : IsTrue (all_at t G) = live_tags (is_same t) (take n rest) passes.here in
+    let back : IsTrue (behind t B) = live_tags (is_before t) (drop n rest) passes.later in
+    let here : (stands t G || pends t s.pending) ≡ true = stood t G s.pending at waiting in
+    subst (λ (xs : List Event). IsNext xs p.last s t) (sym split_up) (next_at p.last t s A G B p.past_front at back after none here)
+
+-- so the run has more rows than there were ticks
+pub progress_waits : (P : Program) (entries rest : List Entry) (s : Snapshot) (outs : List Out) (before now n : ℕ) (t : Moment) → Progress P entries rest s outs before now → Passes t rest n
+    → IsTrue (none_before t s.pending) → is_waiting t (map given_of (live (take n rest))) s.pending ≡ true
+    → (trace : List Row) → Run P (live entries) trace → now < before + length trace
+progress_waits P entries rest s outs before now n t p passes none waiting trace run =
+    let E = live entries in
+    let X = given_at t E in
+    let row : Row = record { tag = t; state = state_after P s t X; outputs = outputs_after P s t X } in
+    let next = next_there P entries rest s outs before now n t p passes none waiting in
+    let more = runs_more P E None p.last (start_state P) s p.done row p.rows next (record { state = refl; outputs = refl }) in
+    let less : length (p.done ++ row ∷ []) ≤ length trace = runs_front P E None (Some t) (start_state P) row.state (p.done ++ row ∷ []) trace more run in
+    let one = length-append p.done (row ∷ []) in
+    let ticked = p.ticked in
+    omega arith
+
 -- and with the step at it, where something does
 stepped : (P : Program) (entries rest : List Entry) (s s' : Snapshot) (outs outs' : List Out) (before now now' n : ℕ) (t : Moment) → Progress P entries rest s outs before now → Passes t rest n
     → IsTrue (none_before t s.pending) → is_waiting t (map given_of (live (take n rest))) s.pending ≡ true → StepsWhereWaiting P t (map given_of (live (take n rest))) s s' outs outs' now now'
@@ -177,8 +207,7 @@ stepped P entries rest s s' outs outs' before now now' n t p passes none waiting
     let after : is_after p.last t ≡ true = waiting_after p.last t (take n rest) s.pending (all_tags_take (is_after p.last) n rest p.later) passes.here p.pending waiting in
     let at : IsTrue (all_at t G) = live_tags (is_same t) (take n rest) passes.here in
     let back : IsTrue (behind t B) = live_tags (is_before t) (drop n rest) passes.later in
-    let here : (stands t G || pends t s.pending) ≡ true = stood t G s.pending at waiting in
-    let next : IsNext E p.last s t = subst (λ (xs : List Event). IsNext xs p.last s t) (sym split_up) (next_at p.last t s A G B p.past_front at back after none here) in
+    let next = next_there P entries rest s outs before now n t p passes none waiting in
     let given : given_at t E ≡ X = ap (given_at t) split_up ∙ given_there p.last t A G B p.past_front at back after in
     let row : Row = record { tag = t; state = s'; outputs = outputs_after P s t (given_at t E) } in
     let step : Step P s t (given_at t E) s' (outputs_after P s t (given_at t E)) = record { state = new ∙ ap (state_after P s t) (sym given); outputs = refl } in
@@ -204,6 +233,20 @@ progress_on P entries rest s s' outs outs' before now now' n t p passes none goe
   | inl waiting ↦ stepped P entries rest s s' outs outs' before now now' n t p passes none waiting goes later
   | inr idle ↦ passed P entries rest s s' outs outs' before now now' n t p passes idle goes
 ]
+
+-- so many ticks may come yet
+pub left_on : (due waiting : Bool) (left after before most now now' : ℕ) → due ≡ waiting → left ≡ after + (if due then 1 else 0) → now + left ≡ before + most
+    → now' ≡ now + (if waiting then 1 else 0) → now' + after ≡ before + most
+left_on true true left after before most now now' same is so_far ticked =
+    let one : left ≡ after + 1 = is in
+    let tick : now' ≡ now + 1 = ticked in
+    omega arith
+left_on false false left after before most now now' same is so_far ticked =
+    let none : left ≡ after + 0 = is in
+    let still : now' ≡ now + 0 = ticked in
+    omega arith
+left_on true false left after before most now now' same is so_far ticked = cc
+left_on false true left after before most now now' same is so_far ticked = cc
 
 -- how many rows are left
 abbrev pub rows_left : Program → List Entry → ℕ → ℕ

@@ -5,11 +5,13 @@
 #![tactic(auto)]
 
 mod plain;
+mod progress;
 mod replay;
 mod rework_law;
 mod sorted_names;
 mod timeline;
 
 pub use plain::Plain;
+pub use progress::Progress;
 pub use rework_law::rework_is_bounded;
 pub use timeline::Timeline;

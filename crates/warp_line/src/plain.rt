@@ -1,4 +1,5 @@
 //! The slow twin: a sorted table, and a run from the start where it is settled after a change.
+use crate::progress::Progress;
 use crate::replay::replay;
 use crate::sorted_names::{note_event, note_withdrawal};
 use crate::timeline::Timeline;
@@ -87,13 +88,28 @@ impl Timeline for Plain {
         program: &Program,
         meter: &mut M,
     ) -> Result<(), OutOfMemory> {
+        // No run has so many rows.
+        let _progress = self.settle_some(alloc, program, u64::MAX, meter)?;
+        Ok(())
+    }
+
+    /// Where it pauses, nothing is done: it runs from the start again.
+    fn settle_some<M: Meter>(
+        &mut self,
+        alloc: Global,
+        program: &Program,
+        most: u64,
+        meter: &mut M,
+    ) -> Result<Progress, OutOfMemory> {
         if !self.settled {
-            let (state, outputs) = replay(alloc, program, &self.entries, meter)?;
+            let Some((state, outputs)) = replay(alloc, program, &self.entries, most, meter)? else {
+                return Ok(Progress::Paused);
+            };
             self.state = state;
             self.outputs = outputs;
             self.settled = true;
         }
-        Ok(())
+        Ok(Progress::Settled)
     }
 
     /// It lets go of nothing, since it runs from the start.

@@ -1,6 +1,6 @@
 //! A run from the start, over a sorted table.
 ghost use Rattle.std.specs.Prelude.{◌≡◌, ◌+◌, ◌≤◌, ◌++◌, ◌∷◌, IsTrue, List, [], length, map, take, drop, IfOk, OnOk};
-ghost use Rattle.std.specs.Prelude.{OnErr};
+ghost use Rattle.std.specs.Prelude.{◌<◌, ℕ, Some, None, true, if◌then◌else◌, IfSome, OnErr};
 ghost use Rattle.std.specs.List.{list_all, list_any};
 ghost use Rattle.warp_tag.specs.Moment.{is_before, is_same};
 ghost use Rattle.warp_tag.specs.Table.{IsTable, live};
@@ -68,6 +68,14 @@ fn is_pending_at(state: &State, tag: Tag) -> bool
     }
 }
 
+/// Whether something is given or pending at the tag.
+fn is_due(state: &State, tag: Tag, given: &[Given]) -> bool
+    requires { IsTrue (none_before tag state.now.pending) }
+    ensures { result ≡ is_waiting tag given.now state.now.pending }
+{
+    !given.is_empty() || is_pending_at(state, tag)
+}
+
 /// A step at the tag, if something is given or pending there.
 fn advance<M: Meter>(
     program: &Program,
@@ -89,7 +97,7 @@ fn advance<M: Meter>(
     ensures scratch { OnOk result (scratch.new ≡ scratch.old) }
     ensures err { OnErr result (M.ticks meter.new ≡ M.ticks meter.old) }
 {
-    if !given.is_empty() || is_pending_at(state, tag) {
+    if is_due(state, tag, given) {
         outputs.try_reserve(program.outputs().len())?;
         step(program, state, scratch, tag, given, outputs, meter);
     }
@@ -104,29 +112,46 @@ fn skip(entries: &[Entry], count: usize) -> &[Entry]
     &entries[count..]
 }
 
+/// How many rows of so many are left, where one more is executed or none is; `None` where it is one too many.
+fn one_less(left: u64, due: bool) -> Option<u64>
+    ensures some { (after : ℕ) → result ≡ Some after → left ≡ after + (if due then 1 else 0) }
+    ensures none { result ≡ None → (due ≡ true) × (left ≡ 0) }
+{
+    left.checked_sub(u64::from(due))
+}
+
 /// Runs a program from its start over the live events of a sorted table: from tag to tag, while an entry is left or
-/// something is pending.
+/// something is pending. `None` says that so many rows were executed, and that one more waits.
 pub(crate) fn replay<M: Meter>(
     alloc: Global,
     program: &Program,
     entries: &[Entry],
+    most: u64,
     meter: &mut M,
-) -> Result<(State, Vec<Out>), OutOfMemory>
+) -> Result<Option<(State, Vec<Out>)>, OutOfMemory>
     requires table { IsTable entries.now }
     requires events { IsTrue (list_all (event_fits program.now) (live entries.now)) }
-    ensures ok { IfOk result (λ r. (done : List Row) × Run program.now (live entries.now) done
-        × (r.0 ≡ state_at_end (start_state program.now) done) × (r.1.items ≡ outputs_of done)) }
+    ensures ok { IfOk result (λ found. IfSome found (λ r. (done : List Row) × Run program.now (live entries.now) done
+        × (r.0 ≡ state_at_end (start_state program.now) done) × (r.1.items ≡ outputs_of done))) }
+    ensures paused { IfOk result (λ found. found ≡ None → (M.ticks meter.new ≡ M.ticks meter.old + most)
+        × ((trace : List Row) → Run program.now (live entries.now) trace → most < length trace)) }
     ensures bound { (trace : List Row) → Run program.now (live entries.now) trace →
         M.ticks meter.new ≤ M.ticks meter.old + length trace }
     ensures ticked { M.ticks meter.old ≤ M.ticks meter.new }
+    ensures most { M.ticks meter.new ≤ M.ticks meter.old + most }
 {
     let mut state = State::start(alloc, program)?;
     let mut scratch = Scratch::new(alloc, program)?;
     let mut given = Vec::new(alloc);
     let mut outputs = Vec::new(alloc);
     let mut rest = entries;
+    let mut left = most;
     'rows: while let Some(tag) = next_tag(rest, state.next()) {
         let count = gather(rest, tag, &mut given)?;
+        let due = is_due(&state, tag, &given);
+        let Some(after) = one_less(left, due) else {
+            return Ok(None);
+        };
         advance(
             program,
             &mut state,
@@ -136,7 +161,8 @@ pub(crate) fn replay<M: Meter>(
             &mut outputs,
             meter,
         )?;
+        left = after;
         rest = skip(rest, count);
     }
-    Ok((state, outputs))
+    Ok(Some((state, outputs)))
 }

@@ -1,4 +1,5 @@
 //! The contract of timelines, which the layers above use.
+use crate::progress::Progress;
 use std::alloc::Global;
 use warp_step::{Meter, Out, Program, State};
 use warp_tag::{OutOfMemory, Tag};
@@ -10,7 +11,7 @@ use warp_tag::{OutOfMemory, Tag};
 /// is known by its floor: no name whose tag is behind it is put or withdrawn any more.
 pub trait Timeline: Sized + Drop {
     ghost use Rattle.std.specs.Prelude.{◌≡◌, ◌<◌, ◌≤◌, ◌+◌, ◌-◌, ℕ, ℤ, Bool, false, IsTrue, List, [], length, IfOk};
-    ghost use Rattle.std.specs.Prelude.{OnOk, OnErr, IsOk, Option, None};
+    ghost use Rattle.std.specs.Prelude.{◌↔◌, OnOk, OnErr, IsOk, Ok, Option, None};
     ghost use Rattle.warp_tag.specs.Limits.{most_names};
     ghost use Rattle.warp_tag.specs.Moment.{Moment};
     ghost use Rattle.warp_tag.specs.Table.{changed, with_event, with_withdrawal, live};
@@ -19,6 +20,7 @@ pub trait Timeline: Sized + Drop {
     ghost use Rattle.warp_step.specs.Events.{IsEventOf, IsNameOf};
     ghost use Rattle.warp_line.specs.Timeline.{Standing, IsDone, IsFront, NowStands, Settles, TakesNoRoom, rows_before};
     ghost use Rattle.warp_line.specs.Timeline.{MovesFloor, is_behind, rows_behind};
+    ghost use Rattle.warp_line.specs.declared.progress.Progress.{Progress};
 
     /// Whether a value stands for this program, table and done rows.
     ghost stands_for: { Self → Standing → Type 0 };
@@ -115,6 +117,32 @@ pub trait Timeline: Sized + Drop {
         ensures unsettled { OnErr result (settled self.new ≡ false) }
         ensures refused { OnErr result (refused self.new) }
         ensures idle { IsTrue (settled self.old) → IsOk result × (self.new ≡ self.old) ×
+            (M.ticks meter.new ≡ M.ticks meter.old) };
+
+    /// Executes what is not done, but at most so many rows by a step each. Where it pauses, so many were executed, and
+    /// one more waits: then, as at an `Err`, it stands done through some tag, whole, says that it is not settled, and
+    /// may be settled later, so too after other calls. What takes no step is not counted.
+    /// Of a settled value it changes nothing, ticks nothing, and cannot fail.
+    fn settle_some<M: Meter>(
+        &mut self,
+        alloc: Global,
+        program: &Program,
+        most: u64,
+        meter: &mut M,
+    ) -> Result<Progress, OutOfMemory>
+        requires { (m : Standing) × stands_for self.old m × (m.program ≡ program.now) }
+        ensures stands { (m : Standing) → stands_for self.old m → m.program ≡ program.now →
+            (done : List Row) × Settles stands_for self.new m (M.ticks meter.new - M.ticks meter.old) done ×
+            IfOk result (λ p. p ≡ Progress.Settled ↔ IsDone (record m { done = done })) }
+        ensures floor { floor self.new ≡ floor self.old }
+        ensures ticked { M.ticks meter.old ≤ M.ticks meter.new }
+        ensures most { M.ticks meter.new ≤ M.ticks meter.old + most }
+        ensures settled { IfOk result (λ p. p ≡ Progress.Settled → IsTrue (settled self.new)) }
+        ensures paused { IfOk result (λ p. p ≡ Progress.Paused → (M.ticks meter.new ≡ M.ticks meter.old + most) ×
+            (settled self.new ≡ false)) }
+        ensures unsettled { OnErr result (settled self.new ≡ false) }
+        ensures refused { OnErr result (refused self.new) }
+        ensures idle { IsTrue (settled self.old) → (result ≡ Ok Progress.Settled) × (self.new ≡ self.old) ×
             (M.ticks meter.new ≡ M.ticks meter.old) };
 
     /// Whether it is settled: then all rows are done. One that is not may have none left to do, as one just started.

@@ -17,3 +17,6 @@ pub mod SortedNames
 pub mod Raised
 pub mod RaisedRecords
 pub mod Asked
+pub mod Growing
+pub mod Histories
+pub mod AnsweredLines

@@ -2,6 +2,7 @@
 -- one of its origins has its announcements reached.
 use Rattle.std.proofs.Common.{◌≡◌, ◌↔◌, inl, inr, ℕ, zero, suc, ◌<◌, Bool, false, IsTrue, List, refl, sym, subst, arith}
 use Rattle.std.proofs.lemmas.Bool.{cases_Bool, cases_lt}
+use Rattle.std.proofs.lemmas.Bool.Decides.{nat_tests}
 use Rattle.warp_tag.specs.Moment.{Moment, is_before}
 use Rattle.warp_tag.proofs.Tags.{not_before_self, not_before_trans}
 use Rattle.warp_step.specs.Program.{Program}
@@ -10,6 +11,7 @@ use Rattle.warp_step.proofs.ValidLemmas.{validity}
 use Rattle.warp_record.specs.declared.record.Record.{Record}
 use Rattle.warp_table.specs.Announced.{IsBroken, IsHorizon, ReachesTo}
 use Rattle.warp_table.specs.Records.{Records, set_of}
+use Rattle.warp_table.proofs.Horizons.{none_before_beginning}
 use Rattle.warp_table.proofs.SomeHeard.{some_breach, some_reach}
 
 module _ (f : ℕ → Moment) where
@@ -66,6 +68,21 @@ some_horizon P S reach some = from P.origins refl some
             least = λ origin below. ((reach origin).0, (reach origin).1, found.2 origin (omega (arith, is, below)));
           },
         )
+
+-- what is not before a tag, which is not before an earlier one, is not before that
+not_before_chain : (t u v : Moment) → is_before u t ≡ false → is_before v u ≡ false → is_before v t ≡ false
+not_before_chain t u v h k = grind (arith, nat_tests)
+
+-- a tag that is not before what an origin of the program reached is not before the horizon
+pub past_reached : (P : Program) (S : Records) (origin : ℕ) (own tag end : Moment) → origin < P.origins → ReachesTo S origin own
+    → is_before tag own ≡ false → IsHorizon P S end → is_before tag end ≡ false
+past_reached P S origin own tag end below reaches past h =
+    let least = h.least origin below in
+    let no_earlier : is_before own least.0 ≡ false = elim least.1.some [
+      | inl reached ↦ reaches.greatest least.0 reached
+      | inr start ↦ subst (λ (x : Moment). is_before own x ≡ false) (sym start) (none_before_beginning own)
+    ] in
+    not_before_chain end own tag (not_before_chain end least.0 own least.2 no_earlier) past
 
 -- the records of a list announce something to a program that has an origin
 pub announces : (P : Program) (records : List Record) → 0 < P.origins → Announces P (set_of records)

@@ -1,6 +1,6 @@
--- What a replica that was given a line leaves.
-use Rattle.std.specs.Prelude.{◌≡◌, ◌≢◌, ℕ, Bool, false, IsTrue, length, Option}
-use Rattle.warp_tag.specs.Limits.{widest}
+-- What a replica that was given a line leaves, and lines one after another.
+use Rattle.std.specs.Prelude.{◌≡◌, ◌≢◌, ℕ, ◌≤◌, Bool, false, IsTrue, List, [], ◌∷◌, length, Option}
+use Rattle.warp_tag.specs.Limits.{most_records, widest}
 use Rattle.warp_tag.specs.Moment.{Moment}
 use Rattle.warp_tag.specs.Table.{live}
 use Rattle.warp_record.specs.Reply.{IsReply}
@@ -15,6 +15,7 @@ use Rattle.warp_replica.specs.Gives.{Gives}
 use Rattle.warp_replica.specs.Length.{SaysLength}
 use Rattle.warp_replica.specs.Replica.{ReplicaState}
 use Rattle.warp_replica.specs.Settling.{LeavesSettled}
+use Rattle.warp_replica.specs.declared.answer.Answer.{Answer}
 
 -- what a timeline tells of itself: whether it is settled, that settling it lacked memory, its floor, and how many rows
 -- before the horizon collecting may keep
@@ -57,3 +58,23 @@ pub record EndsBatch {T : Type 0} (facts : TimelineFacts T) (r r' : ReplicaState
   pub floor : facts.floor r'.timeline ≡ facts.floor r.timeline
   pub settled : facts.settled r'.timeline ≡ false → facts.refused r'.timeline
   pub idle : IsTrue (facts.settled r.timeline) → r' ≡ r
+
+-- an answer in range: so is its reply, and the length that this says is the answer's, which a log may have
+abbrev pub IsAnswer : Answer → Type 0
+IsAnswer answer = IsReply widest answer.reply × SaysLength answer.len answer.reply × (answer.len ≤ most_records widest)
+
+-- The replica was given a line, alone or among others: it has answered it, and the answer says the length of the log that
+-- the line left.
+pub record AnswersLine {T : Type 0} (facts : TimelineFacts T) (r : ReplicaState T) (said : Line) (answer : Answer)
+    (r' : ReplicaState T) : Type 0 where
+  pub given : Answered facts r said answer.reply r'
+  pub len : answer.len ≡ length r'.records
+  pub fits : IsAnswer answer
+
+-- the replica was given these lines, one after another, each as this relation says
+abbrev pub AreAnswered : {T : Type 0} → (ReplicaState T → Line → Answer → ReplicaState T → Type 0) → ReplicaState T
+    → List Line → List Answer → ReplicaState T → Type 0
+AreAnswered one r [] [] r' = r' ≡ r
+AreAnswered {T} one r (said ∷ lines) (answer ∷ answers) r' =
+    (next : ReplicaState T) × one r said answer next × AreAnswered one next lines answers r'
+AreAnswered one r lines answers r' = ⊥

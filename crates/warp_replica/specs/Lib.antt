@@ -10,3 +10,4 @@ pub mod Length
 pub mod Settling
 pub mod Chain
 pub mod Answered
+pub mod History

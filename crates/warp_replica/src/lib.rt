@@ -9,6 +9,7 @@
 //! (`rework_after_takes`).
 #![tactic(auto)]
 
+mod answer;
 mod asking;
 mod entering;
 mod idle;
@@ -22,6 +23,7 @@ mod replica;
 mod rework_law;
 mod taking;
 
+pub use answer::Answer;
 pub use idle::Idle;
 pub use law::{
     merging_joins, merging_laws, one_answer, one_reply, one_taking, pulled_record, raised_replies,

@@ -2,16 +2,17 @@
 ghost use Rattle.std.specs.Prelude.{◌≡◌, ◌↔◌, ℕ, ◌+◌, ◌-◌, ◌<◌, ◌≤◌, [], ◌∷◌, ◌++◌, false, None, Ok, length, List};
 ghost use Rattle.std.specs.Prelude.{All, Contains, IsTrue, IfSome, IfNone, IsOk, IfOk, IfErr, OnOk, OnErr};
 ghost use Rattle.warp_tag.specs.Limits.{most_origins, most_outputs, most_records, widest};
+ghost use Rattle.warp_tag.specs.Moment.{Moment, is_before};
 ghost use Rattle.warp_record.specs.declared.line.Query.{Query};
 ghost use Rattle.warp_record.specs.declared.record.Record.{Record};
 ghost use Rattle.warp_record.specs.declared.reply.Reply.{Reply};
 ghost use Rattle.warp_record.specs.Record.{IsRecord};
 ghost use Rattle.warp_record.specs.Reply.{IsOut, IsReply};
-ghost use Rattle.warp_step.specs.Counter.{IsUnused};
 ghost use Rattle.warp_step.specs.Run.{Row};
 ghost use Rattle.warp_tag.specs.Table.{live};
 ghost use Rattle.warp_line.specs.Timeline.{IsDone, KeepsDone, Settles};
-ghost use Rattle.warp_table.specs.Announced.{ReachesTo};
+ghost use Rattle.warp_line.specs.declared.progress.Progress.{Progress};
+ghost use Rattle.warp_table.specs.Announced.{IsHorizon, ReachesTo};
 ghost use Rattle.warp_table.specs.Log.{EachOnce, IsAt};
 ghost use Rattle.warp_table.specs.Check.{refusal_of};
 ghost use Rattle.warp_table.specs.NameCounts.{AreCounts};
@@ -26,13 +27,12 @@ ghost use Rattle.warp_replica.specs.Replica.{AreAllowed, standing_of, Stands};
 ghost use Rattle.warp_replica.specs.Gives.{GivesQuery, Takes, came_in, tag_of, told};
 
 use crate::entering::{comes_behind, enter_record};
-use crate::idle::Idle;
+use crate::idle::{settle_some_untold, settle_untold};
 use crate::rebuilding::rebuilt;
 use crate::taking::Took;
 use std::alloc::Global;
-use std::marker::{Brand, Model};
-use std::sync::ledger::{Blank, Ledger};
-use warp_line::Timeline;
+use std::marker::Model;
+use warp_line::{Progress, Timeline};
 use warp_record::{Query, Record, Refusal, Reply};
 use warp_step::{Meter, Out, Program};
 use warp_table::{NameCounts, Table};
@@ -277,27 +277,70 @@ impl<T: Timeline> Replica<T> {
         if self.timeline.is_settled() {
             return Ok(());
         }
-        self.settle_untold::<Brand>(alloc, Blank::new(1))
+        settle_untold(self, alloc)
     }
 
-    /// Settles. `blank` is the ledger that the ticks are counted in, which nobody asks for.
-    #[inline(never)]
-    fn settle_untold<L: Ledger>(&mut self, alloc: Global, blank: Blank) -> Result<(), OutOfMemory>
-        requires { IsUnused blank L.name L.parts }
+    /// Executes what is not done, but at most so many rows by a step each. Where it pauses, so many were executed, and
+    /// one more waits: then, as at an `Err`, it is done through some tag, whole, and may be settled later. Meanwhile
+    /// records are taken as at any time. Of a settled replica it changes nothing, ticks nothing, and cannot fail.
+    pub fn settle_some<M: Meter>(
+        &mut self,
+        alloc: Global,
+        most: u64,
+        meter: &mut M,
+    ) -> Result<Progress, OutOfMemory>
         ensures stands { (done : List Row) → Stands T.stands_for self.old done →
-            (ticks : ℕ) × (after : List Row)
-            × Settles T.stands_for self.new.timeline (standing_of self.old done) ticks after
-            × OnOk result (IsDone (standing_of self.new after)) }
+            (after : List Row) ×
+            Settles T.stands_for self.new.timeline (standing_of self.old done)
+            (M.ticks meter.new - M.ticks meter.old) after
+            × IfOk result (λ p. p ≡ Progress.Settled ↔ IsDone (standing_of self.new after)) }
         ensures program { self.new.program ≡ self.old.program }
         ensures records { self.new.records ≡ self.old.records }
         ensures floor { T.floor self.new.timeline ≡ T.floor self.old.timeline }
-        ensures settled { OnOk result (IsTrue (T.settled self.new.timeline)) }
+        ensures ticked { M.ticks meter.old ≤ M.ticks meter.new }
+        ensures most { M.ticks meter.new ≤ M.ticks meter.old + most }
+        ensures settled { IfOk result (λ p. p ≡ Progress.Settled → IsTrue (T.settled self.new.timeline)) }
+        ensures paused { IfOk result (λ p. p ≡ Progress.Paused → (M.ticks meter.new ≡ M.ticks meter.old + most) ×
+            (T.settled self.new.timeline ≡ false)) }
         ensures unsettled { OnErr result (T.settled self.new.timeline ≡ false) }
         ensures refused { OnErr result (T.refused self.new.timeline) }
-        ensures idle { IsTrue (T.settled self.old.timeline) → IsOk result × (self.new ≡ self.old) }
+        ensures idle { IsTrue (T.settled self.old.timeline) → (result ≡ Ok Progress.Settled) ×
+            (self.new ≡ self.old) × (M.ticks meter.new ≡ M.ticks meter.old) }
     {
-        let mut idle = Idle::<L>::new(blank);
-        self.timeline.settle(alloc, &self.program, &mut idle)
+        self.timeline.settle_some(alloc, &self.program, most, meter)
+    }
+
+    /// Executes what is not done, but at most so many rows, as `settle_some` does, for whoever counts no ticks. Where
+    /// it pauses, so many were executed, and one more waits: then, as at an `Err`, it is done through some tag, whole,
+    /// and may be settled later. Meanwhile records are taken as at any time. Of a settled replica it changes nothing,
+    /// and cannot fail.
+    #[inline(always)]
+    pub fn settle_some_uncounted(
+        &mut self,
+        alloc: Global,
+        most: u64,
+    ) -> Result<Progress, OutOfMemory>
+        ensures stands { (done : List Row) → Stands T.stands_for self.old done →
+            (ticks : ℕ) × (after : List Row)
+            × Settles T.stands_for self.new.timeline (standing_of self.old done) ticks after
+            × (ticks ≤ most)
+            × IfOk result (λ p. (p ≡ Progress.Settled ↔ IsDone (standing_of self.new after))
+            × (p ≡ Progress.Paused → ticks ≡ most)) }
+        ensures program { self.new.program ≡ self.old.program }
+        ensures records { self.new.records ≡ self.old.records }
+        ensures floor { T.floor self.new.timeline ≡ T.floor self.old.timeline }
+        ensures settled { IfOk result (λ p. p ≡ Progress.Settled → IsTrue (T.settled self.new.timeline)) }
+        ensures paused { IfOk result (λ p. p ≡ Progress.Paused → T.settled self.new.timeline ≡ false) }
+        ensures unsettled { OnErr result (T.settled self.new.timeline ≡ false) }
+        ensures refused { OnErr result (T.refused self.new.timeline) }
+        ensures idle { IsTrue (T.settled self.old.timeline) → (result ≡ Ok Progress.Settled) ×
+            (self.new ≡ self.old) }
+    {
+        // Mostly all is done.
+        if self.timeline.is_settled() {
+            return Ok(Progress::Settled);
+        }
+        settle_some_untold(self, alloc, most)
     }
 
     /// Whether all rows are done, so that queries can be answered.
@@ -431,6 +474,23 @@ impl<T: Timeline> Replica<T> {
         let outputs = self.timeline.outputs();
         let count = outputs.partition_point(|output| output.tag.is_before(horizon));
         &outputs[..count]
+    }
+
+    /// Whether the tag is before the horizon, so that outputs at it are released. The replica need not be settled. What
+    /// this origin reached is looked at first, since no horizon is behind it: so a tag that it may send costs one look.
+    #[inline(always)]
+    pub fn is_before_horizon(&self, origin: u32, tag: Tag) -> bool
+        ensures { (horizon : Moment) × IsHorizon self.now.program (set_of self.now.records) horizon
+            × (result ≡ is_before tag horizon) }
+    {
+        // Each program is valid, and so has a horizon.
+        self.program.valid();
+        if origin < self.program.origins() {
+            if !tag.is_before(self.table.reached(origin)) {
+                return false;
+            }
+        }
+        tag.is_before(self.table.horizon(&self.program))
     }
 
     /// The values of all variables at the end of the run, in their order.

@@ -1,6 +1,6 @@
 -- Turns one after another, up to the end of the run.
-use Rattle.std.proofs.Common.{◌≡◌, ℕ, ◌+◌, ◌-◌, ◌<◌, ◌≤◌, true, false, not, ◌++◌, List, [], ◌∷◌, length, ap, subst, ◌∙◌, refl, arith, IsTrue, Option, None, Result, Ok, Err, append_assoc, length-append}
-use Rattle.std.specs.Prelude.{IsErr, OnOk}
+use Rattle.std.proofs.Common.{◌≡◌, ℕ, ◌+◌, ◌-◌, ◌<◌, ◌≤◌, true, false, not, ◌++◌, List, [], ◌∷◌, length, ap, subst, sym, ◌∙◌, refl, arith, IsTrue, Option, Some, None, Result, Ok, Err, append_assoc, length-append}
+use Rattle.std.specs.Prelude.{IfSome, IsErr, OnOk}
 use Rattle.std.specs.List.{list_all, list_any}
 use Rattle.std.proofs.lemmas.Bool.Decides.{nat_tests}
 use Rattle.warp_tag.specs.Limits.{most_names}
@@ -9,11 +9,12 @@ use Rattle.warp_tag.specs.Table.{Event, live}
 use Rattle.warp_tag.proofs.Tags.{is_same_self}
 use Rattle.warp_step.specs.Program.{Program}
 use Rattle.warp_step.specs.Snapshot.{Snapshot, start_state}
-use Rattle.warp_step.specs.Run.{Row, is_after, waits}
+use Rattle.warp_step.specs.Run.{Row, IsNext, is_after, waits}
 use Rattle.warp_line.specs.Timeline.{Standing, IsDone, Settles}
 use Rattle.warp_line.specs.Begin.{last_after}
-use Rattle.warp_run.specs.Walk.{AreThrough}
+use Rattle.warp_run.specs.Walk.{AreThrough, tag_of_next}
 use Rattle.warp_run.specs.Warp.{Goes, StandsFor}
+use Rattle.warp_run.specs.declared.walk.Next.{Next}
 use Rattle.warp_run.specs.declared.warp.Warp.{Warp}
 use Rattle.warp_run.proofs.TurnsRuns.{begin_length, begin_names, run_ends}
 
@@ -74,13 +75,24 @@ none_after E last s none = by E (λ u there. there)
         let rest = by xs (λ u h. within u (grind (arith, nat_tests))) in
         grind (arith, nat_tests)
 
--- so where the run is done, its last tag is the latest
-pub done_through : (w : Warp) (m : Standing) → StandsFor w m → IsDone m → AreThrough w.tip.last (live m.table)
-done_through w m h done =
-    none_after (live m.table) w.tip.last w.tip.state
-    (λ t. ap (λ l. waits (live m.table) l w.tip.state t) h.tip.last
+-- where all is done nothing waits
+quiet : (w : Warp) (m : Standing) → StandsFor w m → IsDone m → (t : Moment) → waits (live m.table) w.tip.last w.tip.state t ≡ false
+quiet w m h done t =
+    ap (λ l. waits (live m.table) l w.tip.state t) h.tip.last
     ∙ ap (λ s. waits (live m.table) (last_after None m.done) s t) h.tip.state
-    ∙ run_ends m.program (live m.table) None (start_state m.program) m.done done t)
+    ∙ run_ends m.program (live m.table) None (start_state m.program) m.done done t
+
+-- so its last tag is the latest
+pub done_through : (w : Warp) (m : Standing) → StandsFor w m → IsDone m → AreThrough w.tip.last (live m.table)
+done_through w m h done = none_after (live m.table) w.tip.last w.tip.state (quiet w m h done)
+
+-- and where a row waits not all is done
+pub not_done : (w : Warp) (m : Standing) (o : Option Next) (row : Next) → StandsFor w m
+    → IfSome o (λ r. (n : Standing) → StandsFor w n → IsNext (live n.table) w.tip.last w.tip.state (tag_of_next r)) → o ≡ Some row → IsDone m → ⊥
+not_done w m o row h some is done =
+    let next = subst (λ (x : Option Next). IfSome x (λ r. (n : Standing) → StandsFor w n → IsNext (live n.table) w.tip.last w.tip.state (tag_of_next r))) is some in
+    let never : false ≡ true = sym (quiet w m h done (tag_of_next row)) ∙ (next m h).waiting in
+    cc
 
 -- a settled value is settled again at no cost
 pub settled_again : (w : Warp) (m : Standing) → StandsFor w m → Settles StandsFor w m 0 m.done

@@ -1,6 +1,6 @@
 //! The timeline with rollback.
 ghost use Rattle.std.specs.Prelude.{◌≡◌, ◌+◌, ◌-◌, ◌≤◌, false, true, IsTrue, List, None, IfSome, OnOk, OnErr};
-ghost use Rattle.std.specs.Prelude.{IsSome, IsSomeAnd, length};
+ghost use Rattle.std.specs.Prelude.{◌↔◌, IfOk, IsSome, IsSomeAnd, length};
 ghost use Rattle.warp_tag.specs.Table.{Event, changed, fresh, live, with_event};
 ghost use Rattle.warp_step.specs.Program.{Program};
 ghost use Rattle.warp_step.specs.Events.{IsEventOf, IsNameOf};
@@ -9,6 +9,7 @@ ghost use Rattle.warp_arena.specs.Places.{IsBehindAll, Reaches, entries_of, entr
 ghost use Rattle.warp_arena.specs.Shape.{IsGap};
 ghost use Rattle.warp_line.specs.Begin.{last_after};
 ghost use Rattle.warp_line.specs.Timeline.{NowStands, Standing, IsDone, is_behind};
+ghost use Rattle.warp_line.specs.declared.progress.Progress.{Progress};
 ghost use Rattle.warp_run.specs.Walk.{IsAhead, IsAtFirst, ahead, tag_of_next};
 ghost use Rattle.warp_run.specs.Skips.{IsCut};
 ghost use Rattle.warp_run.specs.Tip.{GoesBack, HasExecuted, KeepsRoom};
@@ -25,7 +26,7 @@ use std::alloc::Global;
 use std::slice;
 use warp_arena::law::{changes_found, changes_new, finds_known};
 use warp_arena::{Arena, Cursor, Gap, NodeId};
-use warp_line::Timeline;
+use warp_line::{Progress, Timeline};
 use warp_step::{Given, Meter, Out, Program, State};
 use warp_tag::{OutOfMemory, Tag};
 
@@ -135,6 +136,26 @@ impl Timeline for Warp {
         Ok(())
     }
 
+    fn settle_some<M: Meter>(
+        &mut self,
+        _alloc: Global,
+        program: &Program,
+        most: u64,
+        meter: &mut M,
+    ) -> Result<Progress, OutOfMemory> {
+        if self.settled {
+            return Ok(Progress::Settled);
+        }
+        match self.catch_up_some(program, most, meter)? {
+            Progress::Settled => {
+                self.latest = self.tip.last();
+                self.settled = true;
+                Ok(Progress::Settled)
+            }
+            Progress::Paused => Ok(Progress::Paused),
+        }
+    }
+
     /// The base comes to the present state, where all that is done is before `below`, and else to the newest
     /// checkpoint whose done tags are all before it, if there is one. The nodes of all names through the base's last
     /// tag are freed, and older checkpoints are dropped, and so is what a rollback set aside. All outputs stay.
@@ -191,11 +212,64 @@ impl Warp {
         ensures done { OnOk result ((m : Standing) → StandsFor self.new m → m.program ≡ program.now → IsDone m) }
     {
         while let Some(next) = self.next_row() {
-            self.note_passed(&next);
-            self.turn(program, &next, meter)?;
-            if self.tip.comes_to_aside() {
-                self.rejoin()?;
+            self.go_on(program, &next, meter)?;
+        }
+        Ok(())
+    }
+
+    /// Executes rows until none waits, but at most so many by a step each.
+    fn catch_up_some<M: Meter>(
+        &mut self,
+        program: &Program,
+        most: u64,
+        meter: &mut M,
+    ) -> Result<Progress, OutOfMemory>
+        requires stands { (m : Standing) × StandsFor self.old m × (m.program ≡ program.now) }
+        requires unsettled { self.old.settled ≡ false }
+        ensures goes { Goes program.now self.old self.new (M.ticks meter.new - M.ticks meter.old) }
+        ensures ticked { M.ticks meter.old ≤ M.ticks meter.new }
+        ensures most { M.ticks meter.new ≤ M.ticks meter.old + most }
+        ensures unsettled { self.new.settled ≡ false }
+        ensures floor { self.new.tip.floor ≡ self.old.tip.floor }
+        ensures done { IfOk result (λ p. (m : Standing) → StandsFor self.new m → m.program ≡ program.now →
+            p ≡ Progress.Settled ↔ IsDone m) }
+        ensures paused { IfOk result (λ p. p ≡ Progress.Paused → M.ticks meter.new ≡ M.ticks meter.old + most) }
+    {
+        let mut left = most;
+        while let Some(next) = self.next_row() {
+            if left == 0 {
+                return Ok(Progress::Paused);
             }
+            left -= 1;
+            self.go_on(program, &next, meter)?;
+        }
+        Ok(Progress::Settled)
+    }
+
+    /// Executes the next row, and goes on over what is aside, where the run comes to it.
+    #[inline(always)]
+    fn go_on<M: Meter>(
+        &mut self,
+        program: &Program,
+        next: &Next,
+        meter: &mut M,
+    ) -> Result<(), OutOfMemory>
+        requires stands { (m : Standing) × StandsFor self.old m × (m.program ≡ program.now) }
+        requires next { (m : Standing) → StandsFor self.old m →
+            IsNext (live m.table) self.old.tip.last self.old.tip.state (tag_of_next next.now) }
+        requires event { IsAtFirst self.old.arena.places (ahead self.old.tip.last self.old.arena.places) next.now }
+        requires unsettled { self.old.settled ≡ false }
+        ensures goes { Goes program.now self.old self.new (M.ticks meter.new - M.ticks meter.old) }
+        ensures ticked { OnOk result (M.ticks meter.new ≡ M.ticks meter.old + 1) }
+        ensures least { M.ticks meter.old ≤ M.ticks meter.new }
+        ensures most { M.ticks meter.new ≤ M.ticks meter.old + 1 }
+        ensures unsettled { self.new.settled ≡ false }
+        ensures floor { self.new.tip.floor ≡ self.old.tip.floor }
+    {
+        self.note_passed(next);
+        self.turn(program, next, meter)?;
+        if self.tip.comes_to_aside() {
+            return self.rejoin();
         }
         Ok(())
     }

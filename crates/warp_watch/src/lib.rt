@@ -5,12 +5,14 @@
 //! were shown: they only grow, until one of them is taken back; then they are frozen.
 #![tactic(auto)]
 
+mod client_id;
 mod lines;
 mod question;
 mod shown;
 mod telling;
 mod words;
 
+pub use client_id::ClientId;
 pub use question::{PAGE, Question, Told};
 pub use shown::Shown;
 pub use telling::tell;

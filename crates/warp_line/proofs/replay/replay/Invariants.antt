@@ -1,5 +1,5 @@
--- the rows so far are a front of the run, and the entries that are left are a table
-use Rattle.std.proofs.Common.{◌+◌, ◌-◌, length, IsTrue}
+-- The rows so far are a front of the run, and the entries that are left are a table. So many ticks may come yet.
+use Rattle.std.proofs.Common.{◌≡◌, ◌+◌, ◌-◌, length, IsTrue}
 use Rattle.std.specs.List.{list_all}
 use Rattle.warp_tag.specs.Table.{IsTable, live}
 use Rattle.warp_step.specs.Snapshot.{IsStateOf}
@@ -15,6 +15,7 @@ invariant-rows g l = record {
   events : IsTrue (list_all (event_fits l.program) (live l.rest));
   state : IsStateOf l.program l.state;
   scratch : IsRoomOf l.program l.scratch;
+  left : g.M.Meter.ticks l.meter + l.left ≡ g.M.Meter.ticks l.fn.meter + l.most;
 }
 
 -- entries that are left, and rows that are left

@@ -1,14 +1,19 @@
--- a settled value stays as it is
-use Rattle.std.proofs.Common.{◌≡◌, ℕ, ◌-◌, List, arith, subst, sym}
-use Rattle.warp_step.specs.Run.{Row}
-use Rattle.warp_line.specs.Timeline.{IsDone, Settles}
-use Rattle.warp_line.specs.Plain.{StandsFor}
-use Rattle.warp_line.proofs.PlainLemmas.{settled_stands}
+-- no run has so many rows, so it comes to the end
+use Rattle.std.proofs.Common.{arith}
+use Rattle.warp_line.proofs.PlainLemmas.{all_settled}
 use Rattle.warp_line.proofs.plain.PlainTimeline.settle.Goals as goal
 
-pub returns-else-not-self-clause-stands : goal.returns-else-not-self-clause-stands
-returns-else-not-self-clause-stands g c = λ m h same.
-    let ticks = g.M.Meter.ticks c.args.meter.now in
-    let nothing : ticks - ticks ≡ 0 = omega arith in
-    subst (λ (n : ℕ). (done : List Row) × Settles StandsFor c.args.self.now m n done × IsDone (record m { done = done })) (sym nothing)
-    (settled_stands c.args.self.now m c.if-not-self.false h)
+pub returns-clause-stands : goal.returns-clause-stands
+returns-clause-stands g c = λ m h same.
+    let some = c.in_ok-_progress.ensures.stands m h same in
+    let all = all_settled c.settle_some.new.self m _ 18446744073709551615 some.0 c.in_ok-_progress._progress some.1 (omega arith)
+    (λ paused. let ticked = (c.in_ok-_progress.ensures.paused paused).0 in omega arith) in
+    (some.0, some.1, some.2.0 all)
+
+pub returns-clause-settled : goal.returns-clause-settled
+returns-clause-settled g c =
+    let m = c.requires.0 in
+    let some = c.in_ok-_progress.ensures.stands m c.requires.1 c.requires.2 in
+    c.in_ok-_progress.ensures.settled
+    (all_settled c.settle_some.new.self m _ 18446744073709551615 some.0 c.in_ok-_progress._progress some.1 (omega arith)
+    (λ paused. let ticked = (c.in_ok-_progress.ensures.paused paused).0 in omega arith))
