@@ -472,11 +472,13 @@ def pages():
 # The first line and what a host, and a `serve`, answers to it.
 HELLO, HOST, SERVE = ("connect", "program"), "peer program 1 here", "peer refused 1"
 PROGRAM = HOST.removeprefix("peer ")
+# A peer that wants a token gets it behind its program, or first.
+BEHIND, FIRST = f"{PROGRAM} token secret", f"{PROGRAM} first secret"
 FIVE, SIX, NONE = "event 0 5 0 0 3", "event 0 6 0 0 4", "withdraw 0 5 0"
 
 
-def followed(name, *calls, program=PROGRAM):
-    return paired(f"following a peer: {name}", "follows", program, [(f"peer {program}", "strange", "over"), HELLO, *calls])
+def followed(name, *calls, program=PROGRAM, hello=HELLO):
+    return paired(f"following a peer: {name}", "follows", program, [(HOST, "strange", "over"), hello, *calls])
 
 
 def watched(place, check=(), host=HOST):
@@ -509,9 +511,17 @@ def following():
                    *((f"peer log 200 {SIX}", f"log {n}", SIX) for n in range(66, 201)), *((f"peer log 200 {SIX}", SIX) for _ in range(63)),
                    (f"peer log 200 {SIX}", "log 201", SIX), ("peer none 200", "level"))
     yield followed("a serve that is busy", *serve, ("peer refused 10", "strange", "over"), HELLO, *serve, ("peer none 1", "strange", "over"))
-    said = ("connect secret", "token secret", "program")
-    yield followed("tokens", said, ("peer may 0 1",), *watched(1), said, ("peer refused 13", "not allowed", "over"), said, ("peer refused 1",), *serve,
-                   said, ("peer may", "strange", "over"))
+    for other in ("program 1 there", "program 2 here", "program 1 here and there"):
+        yield followed(f"no token for a host of {other}", (f"peer {other}", "another program", "over"), ("lose", "over"), program=BEHIND)
+    shown, may = (HOST, "token secret"), ("peer may 0 1", "watch log 1")
+    yield followed("a token behind the program", shown, may, ("peer watching 1", "found at 1, true"), (f"peer * log 1 {FIVE}", FIVE), HELLO, shown,
+                   ("peer may *", "log 1"), ("peer refused 13", "not allowed", "over"), HELLO, shown, ("peer refused 13", "not allowed", "over"),
+                   *(call for text in ("may", "refused 1", "watching 1", "") for call in (HELLO, shown, (f"peer {text}", "strange", "over"))),
+                   HELLO, ("peer refused 13", "its program is not told", "over"), HELLO, (SERVE, "log 1"), program=BEHIND)
+    said = ("connect", "token secret", "program")
+    yield followed("a token first", ("peer may 0 1",), *watched(1), said, ("peer refused 13", "not allowed", "over"), said,
+                   ("peer refused 1",), *serve, said, ("peer may", "strange", "over"), said, ("peer may *",), ("peer program 1 there", "another program",
+                   "over"), said, ("peer may read",), (HOST, "watch log 1"), ("peer refused 13", "not allowed", "over"), program=FIRST, hello=said)
     yield followed("what is no answer", ("peer program 1 there", "another program", "over"), HELLO, ("peer program", "strange", "over"), HELLO,
                    ("peer refused 13", "not allowed", "over"), HELLO, (HOST, "watch log 1"), (f"peer * log 1 {FIVE}", "strange", "over"), HELLO,
                    *watched(1), ("peer * log 1 event 0 05 0 0 3", "strange", "over"), HELLO, *watched(1), ("peer * gone slow", "strange", "over"),

@@ -5,7 +5,7 @@ from collections import defaultdict
 from functools import lru_cache
 from operator import ge
 
-from loopback import holds, same
+from loopback import Wrong, holds, same
 
 
 def wrapped(value):
@@ -60,11 +60,6 @@ class Told:
     def released(self):
         return [it for it in self.outputs if it[0] < self.horizon]
 
-    def row(self, number):
-        """The row that the board has with this number, if it has as many as are released."""
-        for (at, micro), value in self.released()[number:number + 1]:
-            return f"row {at} {micro} 0 {value}"
-
     def answer(self, query):
         word, *number = query.split()
         number = int(number[0]) if number else 0
@@ -104,30 +99,56 @@ def is_of_board(line):
     return line.split(" ")[0] in ("board", "row")
 
 
-def check_board(line, reply, board, rows):
-    """A line of the board, of which this count and flag were told before: a frozen board stays, and else it never falls; a row is
-    there where it has so many, and stays as it is. Returns the count and the flag that are known now."""
-    word, *numbers = reply.split(" ")
-    if line == "board":
-        same(word, "board", f"the reply to {line!r}")
-        now = int(numbers[0]), int(numbers[1])
-        holds(now == board or now[0] <= MOST_ROWS and now > board and not board[1], f"the board went from {board} to {now}")
-        return now
-    number = int(line.split(" ")[1])
-    if reply == "none":
-        holds(number >= board[0], f"{line!r} was answered {reply!r} where the board had {board[0]} rows")
-        return board
-    same(word, "row", f"the reply to {line!r}")
-    holds(number < (board[0] if board[1] else MOST_ROWS), f"{line!r} was answered {reply!r} where the board was {board}")
-    same(reply, rows.setdefault(number, reply), f"the reply to {line!r}")
-    return max(board, (number + 1, 0))
+class Shown:
+    """What publishing behind each record of a log in turn shows on a board: behind so many records its count of rows and its flag, and
+    the rows, which stay. Where the rows no longer begin what is released it freezes."""
+
+    def __init__(self, told, count):
+        self.rows, frozen, self.behind = [], 0, []
+        for length in range(count + 1):
+            released = told(length).released()
+            if self.rows != released[:len(self.rows)]:
+                frozen = 1
+            if not frozen:
+                self.rows = released[:MOST_ROWS]
+            self.behind.append((len(self.rows), frozen))
+
+    def reply(self, line, length):
+        """The reply to a line of the board behind so many records."""
+        word, *number = line.split(" ")
+        count, frozen = self.behind[length]
+        if word == "board":
+            return f"board {count} {frozen}"
+        if int(number[0]) >= count:
+            return "none"
+        (at, micro), value = self.rows[int(number[0])]
+        return f"row {at} {micro} 0 {value}"
 
 
-def check_said(log, told, talk, places, rows):
-    """Each reply of a session is that of the records of the log at its length; lengths and the board never fall along it, and rows of
-    the board are the same at all sessions."""
-    length, board = 0, (0, 0)
-    for line, reply, _, _ in talk.said:
+def next_places(said):
+    """Of each line of a session the place of the first record that it brought then or later: None behind the last."""
+    places, place = [], None
+    for line, reply, _, _ in reversed(said):
+        if is_record(line) and reply.startswith("taken "):
+            place = int(reply.split(" ")[1])
+        places.append(place)
+    return places[::-1]
+
+
+def check_board(line, reply, shown, least, most):
+    """A line of the board is answered as publishing in turn has it behind so many records at least, and at most. Returns the least
+    number of these."""
+    for length in range(least, most + 1):
+        if shown.reply(line, length) == reply:
+            return length
+    raise Wrong(f"{line!r} was answered {reply!r}, where publishing behind {least} to {most} records shows "
+                f"{sorted({shown.reply(line, length) for length in range(least, most + 1)})}")
+
+
+def check_said(log, told, shown, talk, places):
+    """Each reply of a session is that of the records of the log at its length; lengths and the board never fall along it."""
+    length = 0
+    for (line, reply, _, _), place_behind in zip(talk.said, next_places(talk.said)):
         word, *numbers = reply.split(" ")
         if line in REFUSED:
             same(reply, f"refused {REFUSED[line]}", f"the reply to {line!r}")
@@ -141,7 +162,8 @@ def check_said(log, told, talk, places, rows):
                 same(word, "known", f"the reply to {line!r}")
             length = max(length, place)
         elif is_of_board(line):
-            board = check_board(line, reply, board, rows)
+            # A record that this session brings later was not there yet.
+            length = check_board(line, reply, shown(), length, len(log) if place_behind is None else place_behind - 1)
         else:
             count = int(numbers[0])
             holds(length <= count <= len(log), f"{reply!r} behind a reply at length {length}, and {len(log)} at last")
@@ -154,17 +176,15 @@ def check_said(log, told, talk, places, rows):
 
 
 def check_order(log, talks, is_all=True):
-    """What sessions were told is one order, that of the log: and what one was told was so for each line that went out after.
-    `is_all`: these sessions brought each record of the log."""
+    """What sessions were told is one order, that of the log: and what one was told was so for each line that went out after. The board
+    is published behind each record in turn. `is_all`: these sessions brought each record of the log."""
     same(len(set(log)), len(log), "the number of different records in the log")
-    told, places, rows = lru_cache(None)(lambda count: Told(log[:count])), set(), {}
+    told, places = lru_cache(None)(lambda count: Told(log[:count])), set()
+    shown = lru_cache(None)(lambda: Shown(told, len(log)))
     for talk in talks:
-        check_said(log, told, talk, places, rows)
+        check_said(log, told, shown, talk, places)
     if is_all:
         same(sorted(places), [*range(1, len(log) + 1)], "the places that were told as taken")
-    for number, reply in rows.items():
-        is_released = any(told(count).row(number) == reply for count in range(len(log) + 1))
-        holds(is_released, f"row {number} of the board is {reply!r}, which was never released")
     said = [it for talk in talks for it in talk.said]
     check_never_falls(lengths(said))
     check_never_falls(boards(said))

@@ -35,7 +35,7 @@ impl Model for Board {
 
 impl Board {
     /// For how many rows there is room.
-    pub(crate) fn room(&self) -> usize
+    pub fn room(&self) -> usize
         ensures room { result ≡ room_of self.now }
         ensures least { 1 ≤ result }
         ensures most { result ≤ most_rows widest }

@@ -1,14 +1,15 @@
-//! Following the log of a peer. The first line, `program V X`, tells the own program. Each further line is a call, and
-//! what it said to the peer and handed to the hub is told behind it:
+//! Following the log of a peer. The first line, `program V X`, tells the own program; behind it stands `token T` or
+//! `first T` where the peer wants a token, behind its program or first. Each further line is a call, and what it said to
+//! the peer and handed to the hub is told behind it:
 //!
-//! - `connect` and `connect TOKEN` begin a connection, `lose` ends it, `again` asks a `serve` again after a pause;
+//! - `connect` begins a connection, `lose` ends it, `again` asks a `serve` again after a pause;
 //! - `peer TEXT` is a line of the peer, `part TEXT` bytes of it without a line feed;
 //! - `hub TEXT` is an answer of the hub to a line that it was handed.
 use crate::lines::{form_of, word_of};
 use crate::mark::{begin, end};
 use crate::transcript::{NO_MEMORY, Transcript};
 use std::alloc::{AllocError, Global};
-use warp_hub::{Follower, PeerEvent};
+use warp_hub::{Follower, PeerEvent, PeerToken};
 use warp_tag::Form;
 
 /// What a follower said and handed on.
@@ -23,10 +24,9 @@ pub(crate) fn perform(alloc: Global, out: &mut Transcript, program: &str, lines:
     let Some(form) = told_form(program) else {
         return out.fail("no program");
     };
-    let Ok(program) = Vec::from_slice(alloc, program.as_bytes()) else {
+    let Ok(mut follower) = follower_of(alloc, form, program) else {
         return out.fail(NO_MEMORY);
     };
-    let mut follower = Follower::new(form, program);
     let mut sides = Sides {
         said: Vec::new(alloc),
         handed: Vec::new(alloc),
@@ -38,6 +38,26 @@ pub(crate) fn perform(alloc: Global, out: &mut Transcript, program: &str, lines:
         sides.said.clear();
         sides.handed.clear();
     }
+}
+
+/// A new follower, by the line that tells the own program and the token.
+fn follower_of(alloc: Global, form: Form, line: &str) -> Result<Follower, AllocError> {
+    let (program, said) = match line.split_once(" first ") {
+        Some((program, said)) => (program, Some((said, true))),
+        None => match line.split_once(" token ") {
+            Some((program, said)) => (program, Some((said, false))),
+            None => (line, None),
+        },
+    };
+    let program = Vec::from_slice(alloc, program.as_bytes())?;
+    let token = match said {
+        Some((said, is_first)) => {
+            let text = Vec::from_slice(alloc, said.as_bytes())?;
+            Some(PeerToken { text, is_first })
+        }
+        None => None,
+    };
+    Ok(Follower::new(form, program, token))
 }
 
 /// The form of the program that a line tells.
@@ -58,14 +78,7 @@ fn make_call(
     let (word, rest) = word_of(line);
     begin(alloc);
     match word {
-        "connect" => {
-            let token = if rest.is_empty() {
-                None
-            } else {
-                Some(rest.as_bytes())
-            };
-            say_done(out, follower.connect(token, &mut sides.said));
-        }
+        "connect" => say_done(out, follower.connect(&mut sides.said)),
         "lose" => follower.lose(),
         "again" => say_done(out, follower.ask_again(&mut sides.said)),
         "peer" => {
@@ -116,6 +129,7 @@ fn say_event(out: &mut Transcript, event: Option<PeerEvent>) {
         }
         Some(PeerEvent::OtherProgram) => out.say("another program"),
         Some(PeerEvent::NotAllowed) => out.say("not allowed"),
+        Some(PeerEvent::Untold) => out.say("its program is not told"),
         Some(PeerEvent::Strange) => out.say("strange"),
         Some(PeerEvent::NoMemory) => out.say(NO_MEMORY),
         Some(PeerEvent::Refused { place, refusal }) => {

@@ -1,7 +1,7 @@
 //! Pulls of a peer's log into a replica, each new, over the same replies, whose reads and writes come in pieces, end or
 //! fail: what each came to, how many records the replica has, and how many bytes of questions were written. And pulls
 //! that come to no end but that of their turns.
-ghost use Rattle.std.specs.Prelude.{None, false};
+ghost use Rattle.std.specs.Prelude.{None};
 ghost use Rattle.warp_step.specs.Counter.{IsUnused};
 ghost use Rattle.warp_record.specs.Reply.{IsReply};
 
@@ -147,7 +147,8 @@ fn say_end(out: &mut Transcript, ended: PullEnd) {
     out.say(word);
 }
 
-/// A desk of this form that knows each record at the first place, or has no memory for any line.
+/// A desk of this form that knows each record at the first place, or has no memory for any line. It writes `ask` alone, and has the rest of
+/// the trait.
 #[derive(Drop)]
 struct Steady {
     form: Form,
@@ -167,18 +168,12 @@ impl Desk for Steady {
 
     ghost form_of = { λ f. f };
 
-    ghost together = { false };
-
     fn ask(&mut self, _line: Line) -> Reply {
         if self.has_memory {
             Reply::Known(1)
         } else {
             Reply::Refused(Refusal::NoMemory)
         }
-    }
-
-    fn asks_together() -> bool {
-        false
     }
 
     fn form(&self) -> Form {

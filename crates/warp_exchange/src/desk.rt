@@ -5,9 +5,9 @@ use warp_tag::Form;
 /// How many lines a desk is asked at once, at most.
 pub const MOST_LINES: usize = 64;
 
-/// Answers lines, one at a time or several together.
+/// Answers lines, one at a time or several together. Whoever answers each at once writes `ask`, and `form`, alone.
 pub trait Desk {
-    ghost use Rattle.std.specs.Prelude.{◌≡◌, ◌≤◌, All, Bool, length};
+    ghost use Rattle.std.specs.Prelude.{◌≡◌, ◌≤◌, All, length};
     ghost use Rattle.warp_tag.specs.Limits.{widest};
     ghost use Rattle.warp_tag.specs.declared.form.Form.{Form};
     ghost use Rattle.warp_record.specs.declared.line.Line.{Line};
@@ -26,9 +26,6 @@ pub trait Desk {
 
     /// The form of its program, in this state.
     ghost form_of: { State → Form };
-
-    /// Whether its lines are asked together where they come together.
-    ghost together: { Bool };
 
     /// The form of its program: of the lines that it takes.
     fn form(&self) -> Form
@@ -55,8 +52,9 @@ pub trait Desk {
 
     /// Whether lines that come together are worth gathering, for `ask_all`: where each answer is waited for. Else they
     /// are asked one by one, as they are read.
-    fn asks_together() -> bool
-        ensures { result ≡ together };
+    fn asks_together() -> bool {
+        false
+    }
 
     /// Answers these lines, at most 64, one after another: the reply to a line is written at its place. What no reply
     /// needed is done at the end.

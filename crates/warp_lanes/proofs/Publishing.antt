@@ -46,7 +46,7 @@ use Rattle.warp_board.specs.Board.{WriterState}
 use Rattle.warp_lanes.specs.Publish.{AreReleased, BeginReleased, HasNews, KeepsBoard, Publishes, news_of}
 use Rattle.warp_lanes.specs.declared.publish.Published.{Published}
 use Rattle.warp_lanes.specs.declared.publish.Published.TheVariants.{Rows, Frozen}
-use Rattle.warp_lanes.proofs.Serving.{take_all}
+use Rattle.warp_replica.proofs.Histories.{take_all}
 
 -- a list begins with another where a front of that begins it, and what is behind the one begins what is behind the other
 pub joined : {X : Type 0} (xs ys : List X) (n : ℕ) → StartsWith xs (take n ys) → StartsWith (drop n xs) (drop n ys) → StartsWith xs ys
@@ -71,7 +71,7 @@ pub front_of_front : {X : Type 0} (xs ys zs : List X) → StartsWith xs ys → S
 front_of_front xs ys zs p q = (q.0 ++ p.0, p.1 ∙ ap (λ l. l ++ p.0) q.1 ∙ append_assoc zs q.0 p.0)
 
 -- two filters, one after the other, are one
-filter_both : {X : Type 0} (p q r : X → Bool) → ((x : X) → r x ≡ (p x && q x)) → (xs : List X) → filter p (filter q xs) ≡ filter r xs
+pub filter_both : {X : Type 0} (p q r : X → Bool) → ((x : X) → r x ≡ (p x && q x)) → (xs : List X) → filter p (filter q xs) ≡ filter r xs
 filter_both p q r h [] = refl
 filter_both p q r h (x ∷ xs) = elim (cases_Bool (q x)) [
   | inl there ↦ elim (cases_Bool (p x)) [

@@ -2,22 +2,19 @@
 use Rattle.std.specs.Prelude.{◌≡◌, ℕ, ◌<◌, ◌≤◌, Bool, true, false, List, [], ◌∷◌, ◌++◌, length, map, slice_get, Some}
 use Rattle.std.specs.List.{AllByRecursion}
 use Rattle.std.proofs.Math.ListN.{set}
-use Rattle.warp_tag.specs.declared.out.Out.{Out}
 use Rattle.warp_step.specs.Program.{Program}
 use Rattle.warp_record.specs.declared.line.Line.{Line}
 use Rattle.warp_record.specs.declared.record.Record.{Record}
-use Rattle.warp_table.specs.Records.{set_of}
-use Rattle.warp_replica.specs.Answered.{Answered, EndsBatch, TimelineFacts}
-use Rattle.warp_replica.specs.Answers.{IsReleased}
+use Rattle.warp_replica.specs.Answered.{EndsBatch, TimelineFacts}
+pub use Rattle.warp_replica.specs.Answered.{AnswersLine, AreAnswered}
 use Rattle.warp_replica.specs.Replica.{ReplicaState}
 use Rattle.warp_replica.specs.Settling.{SettlesNew}
 use Rattle.warp_board.specs.Board.{WriterState}
-use Rattle.warp_lanes.specs.declared.answer.Answer.{Answer}
-use Rattle.warp_lanes.specs.declared.publish.Published.{Published}
+use Rattle.warp_replica.specs.declared.answer.Answer.{Answer}
 use Rattle.warp_lanes.specs.declared.turn.Turn.{Turn}
 use Rattle.warp_lanes.specs.declared.turn.Turn.TheVariants.{Served, Empty, Stalled}
-use Rattle.warp_lanes.specs.Lanes.{LaneId, LaneState, PortEndState, IsAnswer, places}
-use Rattle.warp_lanes.specs.Publish.{Publishes}
+use Rattle.warp_lanes.specs.Lanes.{LaneId, LaneState, PortEndState, places}
+use Rattle.warp_lanes.specs.Publish.{PublishesEach}
 
 -- how many lanes an engine may serve
 abbrev pub most_lanes : ℕ
@@ -47,15 +44,7 @@ abbrev pub HasPlace : List LaneState → ℕ → Type 0
 HasPlace lanes number =
     (lane : LaneState) × (slice_get lanes number ≡ Some lane) × (length lane.answers < places)
 
--- The replica was given a line, alone or among others: it has answered it, and the answer says the length of the log that
--- the line left.
-pub record AnswersLine {T : Type 0} (facts : TimelineFacts T) (r : ReplicaState T) (said : Line) (answer : Answer)
-    (r' : ReplicaState T) : Type 0 where
-  pub given : Answered facts r said answer.reply r'
-  pub len : answer.len ≡ length r'.records
-  pub fits : IsAnswer answer
-
--- the same of a line alone: nothing waits behind a new record
+-- the replica answered a line alone: nothing waits behind a new record
 pub record AnswersAlone {T : Type 0} (facts : TimelineFacts T) (r : ReplicaState T) (said : Line) (answer : Answer)
     (r' : ReplicaState T) : Type 0 where
   pub answers : AnswersLine facts r said answer r'
@@ -84,24 +73,15 @@ Turns facts e number turn e' =
     × TurnsLane facts e.replica lane turn e'.replica lane'
     × (e'.lanes ≡ set e.lanes number lane') × (e'.writer ≡ e.writer) × (e'.began ≡ e.began)
 
--- the replica was given these lines, one after another, each as this relation says
-abbrev pub AreAnswered : {T : Type 0} → (ReplicaState T → Line → Answer → ReplicaState T → Type 0) → ReplicaState T
-    → List Line → List Answer → ReplicaState T → Type 0
-AreAnswered one r [] [] r' = r' ≡ r
-AreAnswered {T} one r (said ∷ lines) (answer ∷ answers) r' =
-    (next : ReplicaState T) × one r said answer next × AreAnswered one next lines answers r'
-AreAnswered one r lines answers r' = ⊥
-
--- What the writer of the board leaves, by whether the replica is settled: what publishing leaves, or all as it was.
-abbrev pub PublishesIf : Bool → Program → List Record → WriterState → WriterState → Type 0
-PublishesIf true P log w w' =
-    (released : List Out) × IsReleased P (set_of log) released
-    × ((published : Published) × Publishes released w published w')
-PublishesIf false P log w w' = w' ≡ w
+-- What a visit leaves of the writer of the board, by whether it leaves the replica settled: what publishing behind each answer, one after
+-- another, leaves, or all as it was.
+abbrev pub PublishesIf : Bool → Program → List Record → List Answer → WriterState → WriterState → Type 0
+PublishesIf true P log made w w' = PublishesEach P log made w w'
+PublishesIf false P log made w w' = w' ≡ w
 
 -- A visit served lines of a lane, at least one and at most as many as it has places. The replica was given them one
--- after another, and what waited then was executed; where that left it settled, its board was published; and the answers
--- stand behind those that the lane sent.
+-- after another, and what waited then was executed; where that left it settled, its board is as publishing behind each
+-- of the lines leaves it; and the answers stand behind those that the lane sent.
 pub record ServesAll {T : Type 0} (facts : TimelineFacts T) (r : ReplicaState T) (lane : LaneState) (w : WriterState)
     (lines : List Line) (made : List Answer) (between r' : ReplicaState T) (lane' : LaneState) (w' : WriterState) : Type 0
   where
@@ -110,7 +90,7 @@ pub record ServesAll {T : Type 0} (facts : TimelineFacts T) (r : ReplicaState T)
     pub answered : AreAnswered (AnswersLine facts) r lines made between
     pub ends : EndsBatch facts between r'
     pub sent : lane' ≡ record lane { commands = lane.commands ++ lines; answers = lane.answers ++ made; free = lane'.free }
-    pub published : PublishesIf (facts.settled r'.timeline) r'.program r'.records w w'
+    pub published : PublishesIf (facts.settled r'.timeline) r'.program r'.records made w w'
 
 -- What a visit of a lane does to the replica, the lane and the writer of the board. A place for an answer is looked for
 -- first, as in a turn.

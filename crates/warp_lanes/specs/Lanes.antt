@@ -1,12 +1,11 @@
 -- What the two ends of a lane have sent and received.
-use Rattle.std.specs.Prelude.{◌≡◌, ◌⊎◌, ℕ, ◌+◌, ◌≤◌, List, length, refl}
+use Rattle.std.specs.Prelude.{◌≡◌, ◌⊎◌, ℕ, ◌+◌, List, length, map, refl}
 use Rattle.std.specs.Coded.{Coded, code_by, coded×, coded_ℕ}
 use denote.RawPtr.{Ptr, coded_ptr}
-use Rattle.warp_tag.specs.Limits.{most_records, widest}
 use Rattle.warp_record.specs.declared.line.Line.{Line}
-use Rattle.warp_record.specs.Reply.{IsReply}
-use Rattle.warp_replica.specs.Length.{SaysLength}
-use Rattle.warp_lanes.specs.declared.answer.Answer.{Answer}
+pub use Rattle.warp_replica.specs.Answered.{IsAnswer}
+use Rattle.warp_replica.specs.History.{Subhistory}
+use Rattle.warp_replica.specs.declared.answer.Answer.{Answer}
 
 -- how many commands, and how many answers, a lane has places for
 abbrev pub places : ℕ
@@ -37,10 +36,6 @@ ring_id_code =
 abbrev pub lane_id_code : Coded LaneId
 lane_id_code = coded× ring_id_code ring_id_code
 
--- an answer that a lane may carry: a reply in range, and the length that it says, which a log may have
-abbrev pub IsAnswer : Answer → Type 0
-IsAnswer answer = IsReply widest answer.reply × SaysLength answer.len answer.reply × (answer.len ≤ most_records widest)
-
 -- the lane of a port, the lines that it sent, and the answers that it fetched, each in order; and how many places for
 -- commands it knows to be free
 pub record PortState : Type 0 where
@@ -70,3 +65,11 @@ pub record LaneState : Type 0 where
   pub commands : List Line
   pub answers : List Answer
   pub free : ℕ
+
+-- what a lane received and sent
+abbrev pub subhistory_of : LaneState → Subhistory
+subhistory_of lane = record { lines = lane.commands; answers = lane.answers }
+
+-- what each of them did
+abbrev pub subhistories : List LaneState → List Subhistory
+subhistories lanes = map subhistory_of lanes

@@ -3,18 +3,18 @@ ghost use Rattle.std.specs.Prelude.{◌≡◌, ◌<◌, ◌≤◌, ◌+◌, ◌+
 ghost use Rattle.std.specs.Prelude.{length, vec_capacity, vec_len};
 ghost use Rattle.rtrb.specs.Ring.{SameConsumer, known_items, received};
 ghost use Rattle.warp_record.specs.declared.line.Line.{Line};
-ghost use Rattle.warp_lanes.specs.declared.answer.Answer.{Answer};
+ghost use Rattle.warp_replica.specs.declared.answer.Answer.{Answer};
 ghost use Rattle.warp_replica.specs.Answered.{facts_of};
 ghost use Rattle.warp_lanes.specs.Engine.{AnswersAlone, AreAnswered, DrainsLane};
 
-use crate::answer::{Answer, AnswerRule};
+use crate::answer::AnswerRule;
 use crate::executor_end::Lane;
 use crate::port::PortEnd;
 use rtrb::Consumer;
 use std::alloc::Global;
 use warp_line::Timeline;
 use warp_record::{Line, Reply};
-use warp_replica::Replica;
+use warp_replica::{Answer, Replica};
 use warp_tag::OutOfMemory;
 
 /// Receives what the port sent and the lane did not receive, and gives it to the replica; hands out the answers that

@@ -10,14 +10,13 @@ ghost use Rattle.warp_line.specs.Timeline.{IsDone, Settles};
 ghost use Rattle.warp_replica.specs.Answers.{IsReleased};
 ghost use Rattle.warp_replica.specs.Replica.{Stands, standing_of};
 ghost use Rattle.warp_replica.specs.Answered.{facts_of};
+ghost use Rattle.warp_replica.specs.History.{IsHistory};
 ghost use Rattle.warp_lanes.specs.Engine.{AreFresh, Drains, HasPlace, Turns, TurnsLane, Visits};
 ghost use Rattle.warp_lanes.specs.Engine.{ids_of, most_lanes};
-ghost use Rattle.warp_lanes.specs.History.{IsHistory};
-ghost use Rattle.warp_lanes.specs.Lanes.{places};
+ghost use Rattle.warp_lanes.specs.Lanes.{places, subhistories};
 ghost use Rattle.warp_lanes.specs.Publish.{AreReleased, HasNews, Publishes};
 ghost use Rattle.warp_lanes.specs.declared.turn.Turn.{Turn};
 
-use crate::answer::Answer;
 use crate::draining::drain;
 use crate::executor_end::Lane;
 use crate::making::LANE_PLACES;
@@ -31,7 +30,7 @@ use std::alloc::Global;
 use std::marker::Model;
 use warp_board::{Board, Writer};
 use warp_line::Timeline;
-use warp_replica::Replica;
+use warp_replica::{Answer, Replica};
 use warp_tag::{OutOfMemory, Tag};
 
 /// A replica, the lanes that it serves, and the writer of its board. Contracts see these three, and the length that the
@@ -51,8 +50,9 @@ pub struct Engine<T: Timeline> {
 impl<T: Timeline> Model for Engine<T> {
     ghost use Rattle.warp_lanes.specs.Codes.{engine_code};
     ghost use Rattle.warp_lanes.specs.Engine.{EngineState};
-    ghost use Rattle.warp_lanes.specs.History.{IsHistory};
+    ghost use Rattle.warp_lanes.specs.Lanes.{subhistories};
     ghost use Rattle.warp_lanes.specs.Publish.{KeepsBoard};
+    ghost use Rattle.warp_replica.specs.History.{IsHistory};
 
     ghost Value = { EngineState T };
 
@@ -62,7 +62,7 @@ impl<T: Timeline> Model for Engine<T> {
         record { replica = e.replica; lanes = e.lanes.items; writer = e.writer; began = e.began } };
 
     ghost invariant = { λ e.
-        IsHistory e.replica.program e.replica.records e.began e.lanes.items
+        IsHistory e.replica.program e.replica.records e.began (subhistories e.lanes.items)
         × KeepsBoard e.replica.program e.replica.records e.writer e.known_rows };
 }
 
@@ -92,7 +92,8 @@ impl<T: Timeline> Engine<T> {
     /// records as the log had when it was made; and while no origin broke an announcement, its board is not frozen, and
     /// the rows begin what the program releases over the log. It does nothing.
     pub fn valid(&self)
-        ensures history { IsHistory self.now.replica.program self.now.replica.records self.now.began self.now.lanes }
+        ensures history { IsHistory self.now.replica.program self.now.replica.records self.now.began
+            (subhistories self.now.lanes) }
         ensures board { AreReleased self.now.replica.program self.now.replica.records self.now.writer }
     {
         // A look at a field shows it.
@@ -142,11 +143,12 @@ impl<T: Timeline> Engine<T> {
         turn
     }
 
-    /// Serves the commands of a lane, by its number from 0, that wait: up to 64, and at most as many as their answers
-    /// have places. Each is asked as a turn asks it, but that what records have executed waits for a query, for
-    /// `collect`, or for the end of the visit. Then it settles, publishes on the board where that leaves it settled, as
-    /// `publish` does, and sends the answers last: who fetched one finds on the board what was released by then. Where
-    /// there was no memory to settle, `settle` and `publish` may be called later. `alloc` is the replica's.
+    /// Serves the commands of a lane, by its number from 0, that wait: one at least, up to 64, and at most as many as
+    /// their answers have places and as publishing once is enough for. Each is asked as a turn asks it, but that what
+    /// records have executed waits for a query, for `collect`, or for the end of the visit. Then it settles, publishes
+    /// on the board where that leaves it settled, which leaves there what publishing behind each command would, and
+    /// sends the answers last: who fetched one finds on the board what was released by then. Where there was no memory
+    /// to settle, `settle` and `publish` may be called later. `alloc` is the replica's.
     pub fn visit(&mut self, alloc: Global, lane: usize, board: &Board) -> Turn
         requires lane { lane < length self.old.lanes }
         requires board { self.old.writer.board ≡ board.now }

@@ -1,10 +1,11 @@
 //! The end of a lane in the thread of the executor, which answers what its port sends.
 
-use crate::answer::{Answer, AnswerRule};
+use crate::answer::AnswerRule;
 use rtrb::{Consumer, Producer};
 use std::alloc::Global;
 use std::marker::Model;
 use warp_record::Line;
+use warp_replica::Answer;
 
 /// Where a port's lines come out, and their answers go in.
 #[derive(Drop)]

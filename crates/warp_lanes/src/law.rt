@@ -6,8 +6,8 @@ ghost use Rattle.warp_record.specs.declared.record.Record.{Record};
 ghost use Rattle.warp_record.specs.declared.reply.Reply.{Reply};
 ghost use Rattle.warp_table.specs.Log.{IsAt};
 ghost use Rattle.warp_replica.specs.Gives.{Gives};
-ghost use Rattle.warp_lanes.specs.declared.answer.Answer.{Answer};
-ghost use Rattle.warp_lanes.specs.History.{IsGiven};
+ghost use Rattle.warp_replica.specs.declared.answer.Answer.{Answer};
+ghost use Rattle.warp_replica.specs.History.{IsGiven};
 
 /// A line leaves the log as it found it, or with one record more, and is answered `taken` with its place then. An
 /// answer `taken` with a place is to the record that stands there.

@@ -22,7 +22,7 @@ mod tests;
 mod turn;
 mod visiting;
 
-pub use answer::{Answer, AnswerRule};
+pub use answer::AnswerRule;
 pub use engine::Engine;
 pub use executor_end::Lane;
 pub use law::taken_is_there;
@@ -32,3 +32,4 @@ pub use publish::Published;
 pub use sending::may_be_sent;
 pub use settling::Settler;
 pub use turn::Turn;
+pub use warp_replica::Answer;

@@ -3,11 +3,12 @@ ghost use Rattle.std.specs.Prelude.{◌≡◌, ◌+◌, ◌≤◌, ◌<◌, ◌+
 ghost use Rattle.std.specs.Prelude.{length};
 ghost use Rattle.warp_lanes.specs.Lanes.{IsAnswer, IsFull, end_of_port, most_missing, places};
 
-use crate::answer::{Answer, AnswerRule};
+use crate::answer::AnswerRule;
 use rtrb::{Consumer, Finished, Producer, PushError};
 use std::alloc::Global;
 use std::marker::Model;
 use warp_record::Line;
+use warp_replica::Answer;
 
 /// How many answers may be missing: as many as both rings have places for.
 const MOST_MISSING: u8 = 128;

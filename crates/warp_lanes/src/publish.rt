@@ -10,7 +10,7 @@ ghost use Rattle.warp_table.specs.Records.{set_of};
 ghost use Rattle.warp_board.specs.Board.{room_of};
 ghost use Rattle.warp_replica.specs.Answers.{IsReleased};
 ghost use Rattle.warp_replica.specs.Gives.{tag_of};
-ghost use Rattle.warp_lanes.specs.Publish.{KeepsBoard, Publishes, news_of};
+ghost use Rattle.warp_lanes.specs.Publish.{IsShown, KeepsBoard, Publishes, news_of};
 
 use warp_board::{Board, Writer};
 use warp_line::Timeline;
@@ -47,6 +47,33 @@ pub(crate) fn publish_settled<T: Timeline>(
     let published = publish(released, *known_rows, writer, board);
     *known_rows = writer.rows().len();
     published
+}
+
+/// Whether the board is full, or the replica is settled and all that it releases stands there, so that publishing would
+/// change nothing. All rows are known to begin what is released, and it is not frozen.
+pub(crate) fn shows_all<T: Timeline>(
+    replica: &Replica<T>,
+    writer: &Writer,
+    known_rows: usize,
+    board: &Board,
+) -> bool
+    requires board { writer.now.board ≡ board.now }
+    requires live { writer.now.frozen ≡ false }
+    requires all { length writer.now.rows ≤ known_rows }
+    requires kept { KeepsBoard replica.now.program replica.now.records writer.now known_rows }
+    ensures { IsTrue result → IsShown replica.now.program replica.now.records writer.now }
+{
+    // A program has an origin, and each record is in its log once.
+    replica.program().valid();
+    replica.valid();
+    let count = writer.rows().len();
+    if count == board.room() {
+        return true;
+    }
+    if !replica.is_settled() {
+        return false;
+    }
+    replica.released().len() == count
 }
 
 /// Appends the released outputs that are missing, as many as the board has room for; or freezes it, where its rows do
@@ -144,7 +171,7 @@ pub(crate) fn news(line: &Line, reply: &Reply) -> Option<Tag>
 }
 
 /// The tag of a record.
-fn tag_of(record: &Record) -> Tag
+pub(crate) fn tag_of(record: &Record) -> Tag
     ensures { result ≡ tag_of «record».now }
 {
     match *record {

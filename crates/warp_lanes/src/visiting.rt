@@ -1,20 +1,21 @@
 //! Visiting a lane: as many of its commands as wait are answered one after another, and the answers are sent when the
 //! board shows what they released.
-ghost use Rattle.std.specs.Prelude.{◌≡◌, ◌≢◌, ◌<◌, ◌≤◌, ◌++◌, ◌∷◌, [], List, length};
+ghost use Rattle.std.specs.Prelude.{◌≡◌, ◌≢◌, ◌⊎◌, ◌+◌, ◌<◌, ◌≤◌, ◌++◌, ◌∷◌, [], false, IsTrue, List, None, length};
 ghost use Rattle.arrayvec.specs.ArrayVec.{array_vec_len};
 ghost use Rattle.rtrb.specs.Ring.{ProducerLooked, SameConsumer, known_free, known_items, received};
 ghost use Rattle.warp_record.specs.declared.line.Line.{Line};
 ghost use Rattle.warp_replica.specs.Answered.{EndsBatch, facts_of};
-ghost use Rattle.warp_lanes.specs.Engine.{AnswersLine, AreAnswered, PublishesIf, VisitsLane};
+ghost use Rattle.warp_lanes.specs.Engine.{AnswersLine, AreAnswered, VisitsLane};
 ghost use Rattle.warp_lanes.specs.Lanes.{places};
-ghost use Rattle.warp_lanes.specs.Publish.{HasNews, KeepsBoard};
-ghost use Rattle.warp_lanes.specs.declared.answer.Answer.{Answer};
+ghost use Rattle.warp_lanes.specs.Publish.{HasNews, IsAhead, IsOnceEnough, IsShown, KeepsBoard, MayFollow};
+ghost use Rattle.warp_lanes.specs.Publish.{PublishesLog};
+ghost use Rattle.warp_replica.specs.declared.answer.Answer.{Answer};
 ghost use Rattle.warp_lanes.specs.declared.turn.Turn.{Turn};
 
-use crate::answer::{Answer, AnswerRule};
+use crate::answer::AnswerRule;
 use crate::executor_end::Lane;
 use crate::making::LANE_PLACES;
-use crate::publish::{news, publish_settled, rows_before};
+use crate::publish::{news, publish_settled, rows_before, shows_all, tag_of};
 use crate::settling::Settler;
 use crate::turn::Turn;
 use arrayvec::ArrayVec;
@@ -23,15 +24,16 @@ use std::alloc::Global;
 use warp_board::{Board, Writer};
 use warp_line::Timeline;
 use warp_record::Line;
-use warp_replica::Replica;
+use warp_replica::{Answer, Replica};
 use warp_tag::Tag;
 
 /// The answers of a visit, before they are sent.
 pub(crate) type Unsent = ArrayVec<Answer, LANE_PLACES>;
 
 /// Answers the commands that wait, at most as many as there are places for answers and as `most`, settles, publishes
-/// where that leaves the replica settled, and sends the answers. Of the board's rows the first `known_rows` are known to
-/// begin what is released, while it is not frozen.
+/// where that leaves the replica settled, and sends the answers. It ends before a command in front of which the board
+/// would have to show what is released, so that publishing once leaves what publishing behind each command would. Of the
+/// board's rows the first `known_rows` are known to begin what is released, while it is not frozen.
 pub(crate) fn visit<T: Timeline, S: Settler<T>>(
     lane: &mut Lane,
     replica: &mut Replica<T>,
@@ -70,6 +72,7 @@ pub(crate) fn visit<T: Timeline, S: Settler<T>>(
         alloc,
         writer,
         known_rows,
+        board,
         unsent,
     );
     show(replica, alloc, writer, known_rows, board, settler);
@@ -101,7 +104,8 @@ fn count_for(
     waiting.min(answers.slots())
 }
 
-/// Gives the replica so many of the commands that are known to be there, and keeps their answers.
+/// Gives the replica the first of the commands that are known to be there, one at least and at most so many, and keeps
+/// their answers: as many as publishing once is enough for.
 fn answer_first<T: Timeline>(
     commands: &mut Consumer<Line, Global>,
     count: usize,
@@ -109,25 +113,131 @@ fn answer_first<T: Timeline>(
     alloc: Global,
     writer: &Writer,
     known_rows: &mut usize,
+    board: &Board,
     unsent: &mut Unsent,
 )
+    requires some { 0 < count }
     requires there { count ≤ length (known_items commands.old) }
     requires most { count ≤ places }
     requires empty { unsent.old.items ≡ [] }
+    requires board { writer.now.board ≡ board.now }
     requires kept { KeepsBoard replica.old.program replica.old.records writer.now known_rows.old }
     ensures ring { SameConsumer commands.old commands.new }
-    ensures made { (lines : List Line) × (length lines ≡ count)
-        × (received commands.new ≡ received commands.old ++ lines)
+    ensures made { (lines : List Line) × (received commands.new ≡ received commands.old ++ lines)
         × AreAnswered (AnswersLine (facts_of T.settled T.refused T.floor T.SLACK))
         replica.old lines unsent.new.items replica.new }
+    ensures some { 0 < length unsent.new.items }
+    ensures most { length unsent.new.items ≤ count }
+    ensures once { IsOnceEnough replica.new.program replica.new.records unsent.new.items writer.now }
     ensures kept { KeepsBoard replica.new.program replica.new.records writer.now known_rows.new }
 {
-    while unsent.len() < count {
+    // Whether the board is known to show all that is released.
+    let mut is_shown = false;
+    'lines: while goes_on(
+        commands,
+        count,
+        replica,
+        writer,
+        *known_rows,
+        board,
+        unsent,
+        &mut is_shown,
+    ) {
         // A program has an origin, and each record is in its log once.
         replica.program().valid();
         replica.valid();
         let news = answer_next(commands, replica, alloc, unsent);
+        is_shown = stays_shown(is_shown, &news);
         *known_rows = rows_before(writer.rows(), *known_rows, news);
+    }
+}
+
+/// Whether one more command is to be answered: the first; or another one of at most so many, that may follow.
+fn goes_on<T: Timeline>(
+    commands: &Consumer<Line, Global>,
+    count: usize,
+    replica: &Replica<T>,
+    writer: &Writer,
+    known_rows: usize,
+    board: &Board,
+    unsent: &Unsent,
+    is_shown: &mut bool,
+) -> bool
+    requires some { 0 < count }
+    requires most { array_vec_len unsent.now ≤ count }
+    requires there { count ≤ array_vec_len unsent.now + length (known_items commands.now) }
+    requires board { writer.now.board ≡ board.now }
+    requires kept { KeepsBoard replica.now.program replica.now.records writer.now known_rows }
+    requires shown { IsTrue is_shown.old → IsShown replica.now.program replica.now.records writer.now }
+    ensures shown { IsTrue is_shown.new → IsShown replica.now.program replica.now.records writer.now }
+    ensures more { IsTrue result → array_vec_len unsent.now < count }
+    ensures follows { IsTrue result → (unsent.now.items ≡ []) ⊎ ((next : Line) × (rest : List Line)
+        × (known_items commands.now ≡ next ∷ rest)
+        × MayFollow replica.now.program replica.now.records next writer.now) }
+    ensures some { result ≡ false → 0 < array_vec_len unsent.now }
+{
+    if unsent.is_empty() {
+        return true;
+    }
+    if unsent.len() == count {
+        return false;
+    }
+    may_follow(
+        commands.peek_known(),
+        replica,
+        writer,
+        known_rows,
+        board,
+        is_shown,
+    )
+}
+
+/// Whether what is released need not be published before the next line is answered: the board shows it, or is frozen;
+/// or its rows begin it, and it begins what the line leaves.
+fn may_follow<T: Timeline>(
+    line: &Line,
+    replica: &Replica<T>,
+    writer: &Writer,
+    known_rows: usize,
+    board: &Board,
+    is_shown: &mut bool,
+) -> bool
+    requires board { writer.now.board ≡ board.now }
+    requires kept { KeepsBoard replica.now.program replica.now.records writer.now known_rows }
+    requires shown { IsTrue is_shown.old → IsShown replica.now.program replica.now.records writer.now }
+    ensures shown { IsTrue is_shown.new → IsShown replica.now.program replica.now.records writer.now }
+    ensures follows { IsTrue result → MayFollow replica.now.program replica.now.records line.now writer.now }
+{
+    if writer.is_frozen() {
+        return true;
+    }
+    if *is_shown {
+        return true;
+    }
+    if known_rows < writer.rows().len() {
+        return false;
+    }
+    if !comes_behind(line, replica) {
+        return true;
+    }
+    *is_shown = shows_all(replica, writer, known_rows, board);
+    *is_shown
+}
+
+/// Whether a board that showed all still does: nothing came in.
+fn stays_shown(is_shown: bool, news: &Option<Tag>) -> bool
+    ensures { IsTrue result → IsTrue is_shown × (news.now ≡ None) }
+{
+    is_shown && news.is_none()
+}
+
+/// Whether the line has a record with a tag before the horizon.
+fn comes_behind<T: Timeline>(line: &Line, replica: &Replica<T>) -> bool
+    ensures { result ≡ false → IsAhead replica.now.program replica.now.records line.now }
+{
+    match *line {
+        Line::Put(record) => replica.is_before_horizon(record.origin(), tag_of(&record)),
+        _ => false,
     }
 }
 
@@ -168,8 +278,9 @@ fn show<T: Timeline, S: Settler<T>>(
     requires board { writer.old.board ≡ board.now }
     requires kept { KeepsBoard replica.old.program replica.old.records writer.old known_rows.old }
     ensures ends { EndsBatch (facts_of T.settled T.refused T.floor T.SLACK) replica.old replica.new }
-    ensures published { PublishesIf (T.settled replica.new.timeline) replica.new.program replica.new.records
-        writer.old writer.new }
+    ensures published { IsTrue (T.settled replica.new.timeline) →
+        PublishesLog replica.new.program replica.new.records writer.old writer.new }
+    ensures unsettled { T.settled replica.new.timeline ≡ false → writer.new ≡ writer.old }
     ensures kept { KeepsBoard replica.new.program replica.new.records writer.new known_rows.new }
 {
     let Ok(()) = settler.settle(alloc, replica) else {

@@ -10,7 +10,7 @@ use Rattle.warp_tag.specs.Limits.{widest}
 use Rattle.warp_record.specs.Reply.{IsReply}
 use Rattle.warp_record.specs.declared.reply.Reply.{Reply}
 use Rattle.warp_exchange.specs.Batch.{GivesEach}
-use Rattle.warp_lanes.specs.declared.answer.Answer.{Answer}
+use Rattle.warp_replica.specs.declared.answer.Answer.{Answer}
 use Rattle.warp_lanes.specs.Lanes.{PortState, IsAnswer}
 use Rattle.warp_session.specs.PortDesk.{Asks, FetchesAll, GivesAt, IsBusy, PortDeskState}
 use Rattle.warp_session.specs.inner.Fetched.{FetchesLast, is_look}

@@ -1,6 +1,6 @@
 -- Lemmas on what serving makes of an engine.
 use Rattle.std.proofs.Common.{◌≡◌, ℕ, ◌⊎◌, inl, inr, Bool, IsTrue, List, [], false, length, min, take, true, true≢false}
-use Rattle.std.proofs.Common.{ap, refl, subst, sym, ◌∙◌}
+use Rattle.std.proofs.Common.{ap, arith, refl, subst, sym, ◌∙◌}
 use Rattle.warp_tag.specs.declared.out.Out.{Out}
 use Rattle.warp_table.specs.Records.{set_of}
 use Rattle.warp_replica.specs.Answered.{TimelineFacts}
@@ -11,8 +11,11 @@ use Rattle.warp_lanes.specs.declared.publish.Published.{Published}
 use Rattle.warp_lanes.specs.declared.publish.Published.TheVariants.{Rows, Frozen}
 use Rattle.warp_lanes.specs.declared.turn.Turn.{Turn}
 use Rattle.warp_lanes.specs.declared.turn.Turn.TheVariants.{Served, Empty, Stalled}
-use Rattle.warp_lanes.specs.Engine.{EngineState, PublishesIf, Visits}
-use Rattle.warp_lanes.specs.Publish.{Publishes}
+use Rattle.warp_replica.specs.declared.answer.Answer.{Answer}
+use Rattle.warp_lanes.specs.Engine.{AnswersLine, EngineState, PublishesIf, Visits}
+use Rattle.warp_lanes.specs.Publish.{Publishes, PublishesEach, PublishesLog}
+use Rattle.warp_replica.proofs.AnsweredLines.{among, lines_count}
+use Rattle.warp_lanes.proofs.PublishedInTurn.{last_published}
 use Rattle.warp_session.specs.Serve.{HasServed, IsPublished, Shows}
 
 -- the board shows this
@@ -34,10 +37,15 @@ module _ {T : Type 0} where
   is_released released r = IsReleased r.program (set_of r.records) released
 
   -- what a visit published is shown
-  publishes_shows : (a b : EngineState T) (settled : Bool) → PublishesIf settled b.replica.program b.replica.records a.writer b.writer
+  publishes_shows : (a b : EngineState T) (settled : Bool) (made : List Answer)
+      → PublishesIf settled b.replica.program b.replica.records made a.writer b.writer
+      → (PublishesEach b.replica.program b.replica.records made a.writer b.writer
+      → (last : WriterState) × PublishesLog b.replica.program b.replica.records last b.writer)
       → IsTrue settled → Shows b
-  publishes_shows a b true p is = (p.0, p.1, shown p.0 a.writer b.writer p.2.0 p.2.1)
-  publishes_shows a b false p is = absurd (true≢false (sym is))
+  publishes_shows a b true made p whole is =
+      let last = whole p in
+      (last.1.0, last.1.1, shown last.1.0 last.0 b.writer last.1.2.0 last.1.2.1)
+  publishes_shows a b false made p whole is = absurd (true≢false (sym is))
 
   same_shows : (b c : EngineState T) → c.replica ≡ b.replica → c.writer ≡ b.writer → Shows b → Shows c
   same_shows b c replica writer h =
@@ -47,7 +55,15 @@ module _ {T : Type 0} where
   pub visit_publishes : (facts : TimelineFacts T) (a b : EngineState T) (lane : ℕ) (turn : Turn) → Visits facts a lane turn b
       → IsPublished facts.settled a b
   visit_publishes facts a b lane Served v =
-      inr (publishes_shows a b (facts.settled b.replica.timeline) v.3.3.published)
+      let lines = v.3.0 in
+      let made = v.3.1 in
+      let between = v.3.2 in
+      let serves = v.3.3 in
+      let many = lines_count facts (AnswersLine facts) (among facts) a.replica between lines made serves.answered in
+      inr
+      (publishes_shows a b (facts.settled b.replica.timeline) made serves.published
+      (last_published facts b.replica.program b.replica.records a.replica between lines made a.writer b.writer serves.answered (sym serves.ends.records)
+      (omega (arith, many, serves.some))))
   visit_publishes facts a b lane Empty v = inl (v.3.0.0, v.3.1)
   visit_publishes facts a b lane Stalled v = inl (v.3.0.0, v.3.1)
 

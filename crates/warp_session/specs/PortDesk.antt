@@ -14,7 +14,7 @@ use Rattle.warp_record.specs.declared.reply.Reply.TheVariants as reply
 use Rattle.warp_record.specs.declared.reply.Refusal.TheVariants.{Busy}
 use Rattle.warp_board.specs.Board.{ReaderState}
 use Rattle.warp_board.specs.contracts.reader.Reader as reader
-use Rattle.warp_lanes.specs.declared.answer.Answer.{Answer}
+use Rattle.warp_replica.specs.declared.answer.Answer.{Answer}
 use Rattle.warp_lanes.specs.contracts.port.Port as port
 use Rattle.warp_lanes.specs.Lanes.{PortState, IsAnswer, IsFull, places}
 

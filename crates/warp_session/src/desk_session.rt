@@ -2,7 +2,7 @@
 //!
 //! It knows neither who answers them, a `Desk`, nor where bytes come from and go to, a `Source` and a `Sink`.
 ghost use Rattle.std.specs.Prelude.{◌≡◌, ◌≢◌, ◌⊎◌, ℕ, ◌+◌, ◌<◌, ◌≤◌, List, [], ◌∷◌, ◌++◌, All, Option, IfOk, OnErr, OnOk, IfSome};
-ghost use Rattle.std.specs.Prelude.{OnSome, false, length, take, true, vec_len};
+ghost use Rattle.std.specs.Prelude.{OnSome, false, length, take, vec_len};
 ghost use Rattle.std.specs.List.{before_first};
 ghost use Rattle.std.specs.Io.KnownBytes.{Appends};
 ghost use Rattle.std.specs.Option.{option_map};
@@ -143,8 +143,13 @@ impl Transcriber {
 
     /// Answers the lines that wait, and gathers the replies. At a desk that is not asked together none waits.
     #[inline(never)]
-    fn answer_waiting<D: Desk, W: Sink>(&mut self, desk: &mut D, sink: &mut W) -> Result<(), Failed>
-        requires alone { D.together ≡ false → self.old.waits ≡ [] }
+    fn answer_waiting<D: Desk, W: Sink>(
+        &mut self,
+        desk: &mut D,
+        sink: &mut W,
+        together: bool,
+    ) -> Result<(), Failed>
+        requires alone { together ≡ false → self.old.waits ≡ [] }
         ensures turn { (f : Form) → All (IsLine f) self.old.waits →
             Turn (λ _. Replied f D.gives []) (Broken f D.gives [])
             (at (D.state desk.old) self.old (W.written sink.old) (W.failures sink.old))
@@ -152,7 +157,7 @@ impl Transcriber {
         ensures none { self.new.waits ≡ [] }
         ensures kept { self.new.kept ≡ self.old.kept }
     {
-        if !D::asks_together() {
+        if !together {
             return Ok(());
         }
         self.batch.answer(desk, sink, &mut self.outbox)
@@ -207,7 +212,6 @@ impl Transcriber {
         line: Line,
     ) -> Result<(), Failed>
         requires room { length self.old.waits < most_lines }
-        requires together { D.together ≡ true }
         ensures turn { (f : Form) → All (IsLine f) self.old.waits → IsLine f «line» →
             Turn (λ _. Replied f D.gives (Whole (spelling «line») ∷ [])) (Broken f D.gives (Whole (spelling «line») ∷ []))
             (at (D.state desk.old) self.old (W.written sink.old) (W.failures sink.old))
@@ -218,7 +222,7 @@ impl Transcriber {
     {
         self.batch.push(line);
         if self.batch.is_full() {
-            return self.answer_waiting(desk, sink);
+            return self.answer_waiting(desk, sink, true);
         }
         Ok(())
     }
@@ -230,17 +234,18 @@ impl Transcriber {
         desk: &mut D,
         sink: &mut W,
         line: Line,
+        together: bool,
     ) -> Result<(), Failed>
-        requires { MayWait D.together self.old.waits }
+        requires { MayWait together self.old.waits }
         ensures turn { (f : Form) → All (IsLine f) self.old.waits → IsLine f «line» →
             Turn (λ _. Replied f D.gives (Whole (spelling «line») ∷ [])) (Broken f D.gives (Whole (spelling «line») ∷ []))
             (at (D.state desk.old) self.old (W.written sink.old) (W.failures sink.old))
             (at (D.state desk.new) self.new (W.written sink.new) (W.failures sink.new)) result }
-        ensures room { MayWait D.together self.new.waits }
+        ensures room { MayWait together self.new.waits }
         ensures lines { (f : Form) → All (IsLine f) self.old.waits → IsLine f «line» → All (IsLine f) self.new.waits }
         ensures kept { self.new.kept ≡ self.old.kept }
     {
-        if D::asks_together() {
+        if together {
             return self.add_waiting(desk, sink, line);
         }
         self.answer_line(desk, sink, line)
@@ -253,8 +258,9 @@ impl Transcriber {
         desk: &mut D,
         sink: &mut W,
         refusal: Refusal,
+        together: bool,
     ) -> Result<(), Failed>
-        requires alone { D.together ≡ false → self.old.waits ≡ [] }
+        requires alone { together ≡ false → self.old.waits ≡ [] }
         ensures turn { (f : Form) → (piece : Piece) → All (IsLine f) self.old.waits → IsRefusedFor f piece refusal →
             Turn (λ _. Replied f D.gives (piece ∷ [])) (λ a b. Broken f D.gives [] a b ⊎ Broken f D.gives (piece ∷ []) a b)
             (at (D.state desk.old) self.old (W.written sink.old) (W.failures sink.old))
@@ -262,7 +268,7 @@ impl Transcriber {
         ensures none { self.new.waits ≡ [] }
         ensures kept { self.new.kept ≡ self.old.kept }
     {
-        self.answer_waiting(desk, sink)?;
+        self.answer_waiting(desk, sink, together)?;
         self.gather(sink, &Reply::Refused(refusal))
     }
 
@@ -312,15 +318,16 @@ impl Transcriber {
         sink: &mut W,
         bytes: &[u8],
         found: &mut Found,
+        together: bool,
     ) -> Result<usize, Failed>
         requires some { 0 < length bytes.now }
-        requires room { MayWait D.together self.old.waits }
+        requires room { MayWait together self.old.waits }
         requires lines { All (IsLine form) self.old.waits }
         ensures count { IfOk result (λ n. (0 < n) × (n ≤ length bytes.now)) }
         ensures turn { Turn (λ n. TakesBytes form D.gives (take n bytes.now)) (BreaksBytes form D.gives bytes.now)
             (at (D.state desk.old) self.old (W.written sink.old) (W.failures sink.old))
             (at (D.state desk.new) self.new (W.written sink.new) (W.failures sink.new)) result }
-        ensures room { OnOk result (MayWait D.together self.new.waits) }
+        ensures room { OnOk result (MayWait together self.new.waits) }
         ensures lines { OnOk result (All (IsLine form) self.new.waits) }
     {
         let (line, count) = match self.read_fresh(form, bytes) {
@@ -330,14 +337,14 @@ impl Transcriber {
                 match *found {
                     Found::Asked(line) => (line, count),
                     Found::Bad(refusal) => {
-                        self.refuse(desk, sink, refusal)?;
+                        self.refuse(desk, sink, refusal, together)?;
                         return Ok(count);
                     }
                     Found::Nothing => return Ok(count),
                 }
             }
         };
-        self.add(desk, sink, line)?;
+        self.add(desk, sink, line, together)?;
         Ok(count)
     }
 
@@ -377,12 +384,13 @@ impl Transcriber {
         ensures none { OnOk result (self.new.waits ≡ []) }
         ensures empty { OnOk result (self.new.gathered ≡ []) }
     {
+        let together = D::asks_together();
         let mut at = 0;
         let mut found = Found::Nothing;
         while at < bytes.len() {
-            at += self.take_line(form, desk, sink, &bytes[at..], &mut found)?;
+            at += self.take_line(form, desk, sink, &bytes[at..], &mut found, together)?;
         }
-        self.answer_waiting(desk, sink)?;
+        self.answer_waiting(desk, sink, together)?;
         self.flush(sink)?;
         Ok(())
     }

@@ -35,8 +35,6 @@ impl<'a, D: Desk, G: Gate> Desk for GatedDesk<'a, D, G> {
 
     ghost form_of = { D.form_of };
 
-    ghost together = { D.together };
-
     fn form(&self) -> Form {
         self.desk.form()
     }

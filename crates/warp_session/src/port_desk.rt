@@ -1,10 +1,10 @@
 //! The desk of a session that is served with others: another thread answers its lines, and it reads the board itself.
-ghost use Rattle.std.specs.Prelude.{◌≡◌, ◌+◌, ◌<◌, ◌≤◌, ◌++◌, ◌∷◌, [], All, IfSome, List, false, length, true, take};
+ghost use Rattle.std.specs.Prelude.{◌≡◌, ◌+◌, ◌<◌, ◌≤◌, ◌++◌, ◌∷◌, [], All, IfSome, List, false, length, take};
 ghost use Rattle.warp_tag.specs.Limits.{widest};
 ghost use Rattle.warp_record.specs.Reply.{IsReply};
 ghost use Rattle.warp_exchange.specs.Batch.{GivesEach};
 ghost use Rattle.warp_lanes.specs.Lanes.{IsAnswer, end_of_port};
-ghost use Rattle.warp_lanes.specs.declared.answer.Answer.{Answer};
+ghost use Rattle.warp_replica.specs.declared.answer.Answer.{Answer};
 ghost use Rattle.warp_session.specs.PortDesk.{FetchesAll, GivesAt, Learns, PortDeskState, look_reply};
 ghost use Rattle.warp_session.specs.inner.Fetched.{FetchesLast, is_look};
 
@@ -202,8 +202,6 @@ impl<'a, X: Wait + Clock> Desk for PortDesk<'a, X> {
     ghost gives = { GivesAt };
 
     ghost form_of = { λ s. s.form };
-
-    ghost together = { true };
 
     fn form(&self) -> Form {
         self.form

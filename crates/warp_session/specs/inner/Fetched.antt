@@ -4,7 +4,7 @@ use Rattle.std.specs.Prelude.{◌≡◌, Bool, true, false, List, ◌++◌, All,
 use Rattle.warp_record.specs.declared.line.Line.{Line}
 use Rattle.warp_record.specs.declared.line.Line.TheVariants.{Put, Ask, Collect, Look}
 use Rattle.warp_record.specs.declared.reply.Reply.{Reply}
-use Rattle.warp_lanes.specs.declared.answer.Answer.{Answer}
+use Rattle.warp_replica.specs.declared.answer.Answer.{Answer}
 use Rattle.warp_lanes.specs.Lanes.{PortState, IsAnswer}
 
 -- the line is a look at the board

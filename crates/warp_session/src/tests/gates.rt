@@ -1,5 +1,4 @@
 //! A gate is called before each line of a session comes to the desk, and behind its reply, with the line's number.
-ghost use Rattle.std.specs.Prelude.{true};
 ghost use Rattle.warp_tag.specs.declared.form.Form.{Form};
 
 use crate::door::Gate;
@@ -72,8 +71,6 @@ impl<'a, X: Wait + Abort> Desk for NotingDesk<'a, X> {
     ghost gives = { λ _ _ _ _. Unit {0} };
 
     ghost form_of = { λ _. Form.One };
-
-    ghost together = { true };
 
     fn form(&self) -> Form {
         Form::One

@@ -3,7 +3,8 @@ use Rattle.std.proofs.lemmas.List.{append_assoc}
 use Rattle.rtrb.specs.Ring.{known_items, received}
 use Rattle.warp_replica.specs.Answered.{facts_of}
 use Rattle.warp_lanes.specs.Engine.{AnswersAlone}
-use Rattle.warp_lanes.proofs.DrainedLanes.{alone, line_more}
+use Rattle.warp_replica.proofs.AnsweredLines.{line_more}
+use Rattle.warp_lanes.proofs.DrainedLanes.{alone}
 use Rattle.warp_lanes.proofs.draining.answer_all.Goals as goal
 
 pub loop-alloc-preserved : goal.loop-alloc-preserved

@@ -1,7 +1,7 @@
 use Rattle.std.proofs.Common.{◌≡◌, ◌+◌, ◌≤◌, ◌++◌, List, length, vec_capacity, vec_len}
 use Rattle.rtrb.specs.Ring.{SameConsumer, known_items, received}
 use Rattle.warp_record.specs.declared.line.Line.{Line}
-use Rattle.warp_lanes.specs.declared.answer.Answer.{Answer}
+use Rattle.warp_replica.specs.declared.answer.Answer.{Answer}
 use Rattle.warp_replica.specs.Answered.{facts_of}
 use Rattle.warp_lanes.specs.Engine.{AnswersAlone, AreAnswered}
 use Rattle.warp_lanes.proofs.draining.answer_all.Given as goal

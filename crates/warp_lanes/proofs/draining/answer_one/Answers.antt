@@ -1,5 +1,5 @@
-use Rattle.warp_lanes.specs.declared.answer.Answer.{Answer}
-use Rattle.warp_lanes.proofs.DrainedLanes.{answers_line}
+use Rattle.warp_replica.specs.declared.answer.Answer.{Answer}
+use Rattle.warp_replica.proofs.AnsweredLines.{answers_line}
 use Rattle.warp_lanes.proofs.draining.answer_one.Goals as goal
 
 pub returns-clause-made : goal.returns-clause-made

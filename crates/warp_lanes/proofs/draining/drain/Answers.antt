@@ -3,7 +3,8 @@ use Rattle.std.proofs.lemmas.List.{append_assoc}
 use Rattle.rtrb.specs.Ring.{all_sent, known_free, known_items, received, sent}
 use Rattle.warp_replica.specs.Answered.{facts_of}
 use Rattle.warp_lanes.specs.Engine.{AnswersAlone}
-use Rattle.warp_lanes.proofs.DrainedLanes.{alone, lines_count, lines_long}
+use Rattle.warp_replica.proofs.AnsweredLines.{lines_count, lines_long}
+use Rattle.warp_lanes.proofs.DrainedLanes.{alone}
 use Rattle.warp_lanes.proofs.draining.drain.Goals as goal
 
 pub copy_all-requires : goal.copy_all-requires

@@ -2,8 +2,8 @@ use Rattle.std.proofs.Common.{◌≡◌, arith, ◌++◌, ◌∷◌, [], ap, ◌
 use Rattle.std.proofs.lemmas.Bool.Decides.{nat_tests}
 use Rattle.std.proofs.lemmas.List.{nil_from_length}
 use Rattle.rtrb.specs.Ring.{known_free}
-use Rattle.warp_lanes.specs.declared.answer.Answer.{Answer}
-use Rattle.warp_lanes.proofs.DrainedLanes.{answers_line}
+use Rattle.warp_replica.specs.declared.answer.Answer.{Answer}
+use Rattle.warp_replica.proofs.AnsweredLines.{answers_line}
 use Rattle.warp_lanes.proofs.Publishing.{has_news}
 use Rattle.warp_lanes.proofs.Serving.{before_none}
 use Rattle.warp_lanes.proofs.engine.serve.Goals as goal

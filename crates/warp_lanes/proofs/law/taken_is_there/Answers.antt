@@ -1,4 +1,4 @@
-use Rattle.warp_lanes.proofs.Growing.{line_grows, taken_there}
+use Rattle.warp_replica.proofs.Growing.{line_grows, taken_there}
 use Rattle.warp_lanes.proofs.law.taken_is_there.Goals as goal
 
 pub returns-clause-one_more : goal.returns-clause-one_more

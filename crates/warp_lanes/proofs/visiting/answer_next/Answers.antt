@@ -1,5 +1,5 @@
-use Rattle.warp_lanes.specs.declared.answer.Answer.{Answer}
-use Rattle.warp_lanes.proofs.DrainedLanes.{answers_line}
+use Rattle.warp_replica.specs.declared.answer.Answer.{Answer}
+use Rattle.warp_replica.proofs.AnsweredLines.{answers_line}
 use Rattle.warp_lanes.proofs.Publishing.{has_news}
 use Rattle.warp_lanes.proofs.visiting.answer_next.Goals as goal
 

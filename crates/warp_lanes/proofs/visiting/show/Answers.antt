@@ -1,6 +1,4 @@
-use Rattle.std.proofs.Common.{Bool, sym, subst}
 use Rattle.std.proofs.lemmas.Bool.{both_ways}
-use Rattle.warp_lanes.specs.Engine.{PublishesIf}
 use Rattle.warp_lanes.proofs.visiting.show.Goals as goal
 
 pub publish_settled-requires-clause-kept : goal.publish_settled-requires-clause-kept
@@ -18,8 +16,8 @@ returns-clause-ends g c =
     }
 
 pub returns-clause-published : goal.returns-clause-published
-returns-clause-published g c =
-    let shown = c.publish_settled.ensures.published in
-    let replica = c.settle.new.replica in
-    subst (λ (b : Bool). PublishesIf b replica.program replica.records c.args.writer.now c.publish_settled.new.writer) (sym c.in-Ok.ensures.settled)
-    (shown.0, shown.1, (c.publish_settled.result, shown.2))
+returns-clause-published g c is =
+    (let shown = c.publish_settled.ensures.published in (shown.0, shown.1, (c.publish_settled.result, shown.2)))
+
+pub returns-clause-unsettled : goal.returns-clause-unsettled
+returns-clause-unsettled g c other = absurd (both_ways _ other c.in-Ok.ensures.settled)

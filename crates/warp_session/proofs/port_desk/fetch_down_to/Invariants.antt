@@ -1,6 +1,6 @@
 -- Some answers more were fetched.
 use Rattle.std.proofs.Common.{◌≡◌, ◌-◌, List, ◌++◌, length}
-use Rattle.warp_lanes.specs.declared.answer.Answer.{Answer}
+use Rattle.warp_replica.specs.declared.answer.Answer.{Answer}
 use Rattle.warp_session.proofs.port_desk.fetch_down_to.Given as goal
 
 abbrev pub invariant-loop-port : goal.invariant-loop-port

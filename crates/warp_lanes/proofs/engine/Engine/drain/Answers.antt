@@ -6,11 +6,13 @@ use Rattle.std.proofs.Math.ListN.{set}
 use Rattle.warp_step.proofs.ValidLemmas.{validity}
 use Rattle.warp_table.proofs.NamesInOrder.{on_err}
 use Rattle.warp_replica.specs.Answered.{facts_of}
+use Rattle.warp_replica.specs.History.{IsHistory, IsServed}
+use Rattle.warp_replica.proofs.AnsweredLines.{counted, lines_program}
+use Rattle.warp_replica.proofs.Histories.{at_place}
 use Rattle.warp_lanes.specs.Engine.{AnswersAlone, EngineState, ids_of}
-use Rattle.warp_lanes.specs.History.{IsHistory, IsServed}
-use Rattle.warp_lanes.specs.Lanes.{LaneState}
-use Rattle.warp_lanes.proofs.DrainedLanes.{alone, counted, id_there, ids_within, lines_board, lines_history, lines_program}
-use Rattle.warp_lanes.proofs.Serving.{any_free, at_place, same_ids}
+use Rattle.warp_lanes.specs.Lanes.{LaneState, subhistories, subhistory_of}
+use Rattle.warp_lanes.proofs.DrainedLanes.{alone, id_there, ids_within, lines_board, lines_history}
+use Rattle.warp_lanes.proofs.Serving.{any_free, is_there, same_ids}
 use Rattle.warp_lanes.proofs.engine.Engine.drain.Goals as goal
 
 -- a lane that is put back as it was leaves the lanes
@@ -56,7 +58,8 @@ drain-requires-clause-answered g c =
     let short : c.args.lane < length c.self.inside.lanes.items = ids_within _ _ _ id in
     let at : slice_get c.self.inside.lanes.items c.args.lane ≡ Some c.index_mut.result.now = slice_get-get_or _ _ _ short ∙ ap (λ l. Some l) (sym c.index_mut.ensures.value) in
     let each = c.self.invariant.0.each in
-    counted _ _ _ _ (at_place (IsServed c.self.inside.replica.program c.self.inside.replica.records) _ _ _ each at).given
+    counted _ _ _ _ (at_place (IsServed c.self.inside.replica.program c.self.inside.replica.records) (subhistories c.self.inside.lanes.items) _ (subhistory_of c.index_mut.result.now) each
+    (is_there c.self.inside.lanes.items _ _ at)).given
 
 pub invariant_of-self-2 : goal.invariant_of-self-2
 invariant_of-self-2 g c =
@@ -66,7 +69,7 @@ invariant_of-self-2 g c =
     let at : slice_get c.self.inside.lanes.items c.args.lane ≡ Some c.index_mut.result.now = slice_get-get_or _ _ _ short ∙ ap (λ l. Some l) (sym c.index_mut.ensures.value) in
     let some : 0 < c.self.inside.replica.program.origins = rw (← c.program.ensures) (validity c.program.result.now c.valid.ensures).limits.origins_some in
     let d = c.in_ok-handed.ensures.drains in (
-      subst (λ (l : LaneState). IsHistory c.drain.new.replica.program c.drain.new.replica.records c.self.inside.began (set c.self.inside.lanes.items c.args.lane l))
+      subst (λ (l : LaneState). IsHistory c.drain.new.replica.program c.drain.new.replica.records c.self.inside.began (subhistories (set c.self.inside.lanes.items c.args.lane l)))
           (sym d.3)
           (any_free c.drain.new.replica.program c.drain.new.replica.records c.self.inside.began _ _ _ c.drain.new.lane.free
           (lines_history facts (AnswersAlone facts) (alone facts) _ _ _ _ _ _ d.0 d.1 c.self.invariant.0 at d.2)),

@@ -11,7 +11,7 @@ invariant-loop-at g l = record {
       (at (g.D.Desk.state l.initial.desk) l.initial.self (g.W.Sink.written l.initial.sink) (g.W.Sink.failures l.initial.sink))
       (at (g.D.Desk.state l.desk) l.self (g.W.Sink.written l.sink) (g.W.Sink.failures l.sink));
   sound : g.W.Sink.failures l.sink ≡ g.W.Sink.failures l.initial.sink;
-  room : MayWait g.D.Desk.together l.self.waits;
+  room : MayWait l.together l.self.waits;
   lines : All (IsLine l.form) l.self.waits;
 }
 

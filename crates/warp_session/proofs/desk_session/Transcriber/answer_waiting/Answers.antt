@@ -4,8 +4,8 @@ use Rattle.warp_session.proofs.TurnsLemmas.{Replied-nil}
 use Rattle.warp_session.proofs.desk_session.Transcriber.answer_waiting.Goals as goal
 
 -- none waits
-pub returns-then-not-asks_together-clause-turn : goal.returns-then-not-asks_together-clause-turn
-returns-then-not-asks_together-clause-turn g c = λ f good. record { does = Replied-nil f g.D.Desk.gives _; breaks = tt; failures = refl }
+pub returns-then-not-together-clause-turn : goal.returns-then-not-together-clause-turn
+returns-then-not-together-clause-turn g c = λ f good. record { does = Replied-nil f g.D.Desk.gives _; breaks = tt; failures = refl }
 
 pub returns-clause-turn : goal.returns-clause-turn
 returns-clause-turn g c = rw (← c.self.view_is) (λ f good.
