@@ -1,6 +1,7 @@
 """Cases of `.ci/host` on who means no good: frames without end of a client that says nothing else, bytes that a browser was made to send,
 and a peer that lies. What is measured is a count, or memory before and behind a flood."""
 
+import contextlib
 import select
 import socket
 import tempfile
@@ -157,4 +158,93 @@ def lying_peer():
     liar.listener.close()
 
 
-CASES = [web_floods, newest_ping, neither_lines_nor_requests, lying_peer]
+class Noting:
+    """A peer that answers each line by what the table has for its first word, and notes what it is sent; else it says nothing."""
+
+    def __init__(self, **answers):
+        self.answers, self.heard = answers, []
+        self.listener = socket.create_server((HOST, 0))
+        self.name = f"{HOST}:{self.listener.getsockname()[1]}"
+        threading.Thread(target=self.serve, daemon=True).start()
+
+    def serve(self):
+        while True:
+            try:
+                one, _ = self.listener.accept()
+            except OSError:
+                return
+            self.heard.append([])
+            threading.Thread(target=self.answer, args=(one, self.heard[-1]), daemon=True).start()
+
+    def answer(self, one, heard):
+        with one, one.makefile("rb") as asked, contextlib.suppress(OSError):
+            one.settimeout(20)
+            for line in asked:
+                heard.append(line.decode().rstrip())
+                answer = self.answers.get(heard[-1].split(" ")[0])
+                if answer:
+                    one.sendall(answer.encode() + b"\n")
+
+
+def tokens_behind_programs():
+    """A peer's token is said to a host of the same program alone, once that told it; or first, where the operator says so."""
+    with Hosted() as known:
+        own = known.talk().ask("program")
+    other, may, watching, refused = f"program 1 {'0' * 64}", "may *", "watching 1", "refused 13"
+    another, wants = "refused: it runs another program", "refused: it wants a token, or another"
+    found = "found: a host of the same program; its log is followed from place 1 on"
+    # The peer, what the operator gave for it, what it is told on each connection, and what the operator is told of it.
+    kinds = {
+        "own": (Noting(program=own, token=may, watch=watching), "secret", ["program", "token secret", "watch log 1"], found),
+        "other": (Noting(program=other, token=may, watch=watching), "secret", ["program"], another),
+        "old": (Noting(program=refused, token=may), "secret", ["program"], "refused: it tells its program behind a token alone (see --peer-tokens)"),
+        "first": (Noting(program=own, token=may, watch=watching), "secret first", ["token secret", "program", "watch log 1"], found),
+        "other, first": (Noting(program=other, token=may), "secret first", ["token secret", "program"], another),
+        "server": (Noting(program="refused 1"), "secret", ["program", "log 1"], "found: a server, which tells no program"),
+        "none wanted": (Noting(program=own, watch=watching), None, ["program", "watch log 1"], found),
+        "wanted": (Noting(program=own, watch=refused), None, ["program", "watch log 1"], wants),
+        "wrong": (Noting(program=own, token=refused), "secret", ["program", "token secret"], wants),
+        "silent": (Noting(), "secret", ["program"], None),
+    }
+    with tempfile.NamedTemporaryFile() as given:
+        written(given, "".join(f"{it.name} {token}\n" for it, token, *_ in kinds.values() if token).encode())
+        peers = [word for it, *_ in kinds.values() for word in ("--peer", it.name)]
+        with Hosted(*peers, "--peer-tokens", given.name, remarks=["peer "]) as host:
+            for kind, (it, _, said, line) in kinds.items():
+                wait_for(lambda it=it, said=said: it.heard and it.heard[0] == said, f"what the peer {kind} is told", 20)
+                wait_for(lambda it=it, line=line: not line or f"peer {it.name} {line}" in host.printed(1), f"what is told of the peer {kind}", 20)
+        for kind, (it, _, said, _) in kinds.items():
+            it.listener.close()
+            holds(all(said[:len(heard)] == heard for heard in it.heard), f"what the peer {kind} is told again: {it.heard}")
+
+
+def guesses():
+    """A connection that said three wrong tokens is closed behind the third answer, over lines and over WebSocket."""
+    with tempfile.NamedTemporaryFile() as tokens, Hosted("--tokens", written(tokens, b"secret *\nother 0\n")) as host:
+        said = told_until_the_end(host, b"token a\nhorizon\ntoken b\ntoken c\ntoken secret\nhorizon\n" + b"token d\n" * 10_000)
+        same(said, b"refused 13\n" * 4, "what is told behind guesses")
+        talk = host.talk()
+        talk.tell(("token a", "refused 13"), ("token secret", "may *"), ("token b", "refused 13"), ("token other", "may 0"), ("horizon", "horizon 0 0 0"))
+        same((talk.ask("token c"), talk.end()), ("refused 13", b""), "the third wrong token")
+        web = Web(host.address)
+        same(web.ask("token a", "token b", "token c"), ["refused 13"] * 3, "three wrong tokens over WebSocket")
+        same(web.closed(), 1001, "the code of the close")
+        web.close()
+
+
+def cross_site():
+    """What a browser says that it asks for a page of another site is refused, unless that page's origin is allowed."""
+    upgrade = ("Upgrade: websocket", "Connection: Upgrade", "Sec-WebSocket-Key: dGhlIHNhbXBsZSBub25jZQ==", "Sec-WebSocket-Version: 13")
+    allowed, other = "Origin: https://game.example", "Origin: https://evil.example"
+    with Hosted("--allow-origin", "https://game.example", remarks=["pages refused: "]) as host:
+        for headers, status in ((("cross-site",), 403), (("Cross-Site",), 403), (("cross-site", allowed), 200), (("cross-site", other), 403),
+                                (("same-site",), 200), (("same-site", other), 403), (("same-origin",), 200), (("none",), 200)):
+            sent = (f"Sec-Fetch-Site: {headers[0]}", *headers[1:])
+            for path in ("/", "/healthz", "/metrics", "/program.json"):
+                same(hosting.get(host.address, path, *sent)[0], status, f"{path} with {sent}")
+            same(Web(host.address, headers=sent).status, 101 if status == 200 else status, f"an upgrade with {sent}")
+        old = f"GET /ws HTTP/1.0\r\nHost: {HOST}:{host.port}\r\n" + "".join(it + "\r\n" for it in upgrade) + "\r\n"
+        holds(hosting.http(host.address, old.encode()).split(b" ")[1] == b"400", "an upgrade over HTTP/1.0 is 400")
+
+
+CASES = [web_floods, newest_ping, neither_lines_nor_requests, lying_peer, tokens_behind_programs, guesses, cross_site]

@@ -38,8 +38,10 @@ def refused_starts():
         ended("host", bad, status=3, error=f"{bad}: line 1, column 1: the JSON text ends too early\nprogram refused 1\n")
         for which, words in (("", "--tokens"), (" of peers", "--peer-tokens")):
             ended("host", TWICE, words, none, status=4, error=f"{none}: {absent}\ncannot read the tokens{which}\n")
-            ended("host", TWICE, words, folder, status=3, error=f"{folder}: others may read it (mode 755; chmod 600 {folder})\n"
-                  f"others may read the tokens{which}\n", mode=(folder, 0o755))
+            ended("host", TWICE, words, folder, status=3, error=f"{folder}: others may read or write it (mode 755; chmod 600 {folder})\n"
+                  f"others may read or write the tokens{which}\n", mode=(folder, 0o755))
+            ended("host", TWICE, words, folder, status=3, error=f"{folder}: others may read or write it (mode 720; chmod 600 {folder})\n"
+                  f"others may read or write the tokens{which}\n", mode=(folder, 0o720))
             ended("host", TWICE, words, folder, status=4, error=f"{folder}: {is_folder}\ncannot read the tokens{which}\n", mode=(folder, 0o700))
         ended("host", TWICE, "--listen", "0.0.0.0:0", status=2,
               error="--listen 0.0.0.0:0: other machines may reach it\nlistening there wants --tokens, or --open if that is meant\n")
@@ -47,6 +49,8 @@ def refused_starts():
             ended("host", TWICE, "--listen", word, status=2,
                   error=f"--listen {word}: no address in numbers with a port\nwhere to listen is ADDRESS:PORT\n")
         ended("host", TWICE, *["--peer", "127.0.0.1:1"] * 65, status=2, error="--peer: 65 of them, of at most 64\ntoo many peers\n")
+        for word in ("foo", "foo:", ":7070", "foo:0", "foo:65536", "foo:x", "127.0.0.1", "[::1]", "::1", "http://foo:7070", "foo:70/"):
+            ended("host", TWICE, "--peer", word, status=2, error=f"--peer {word}: no host with a port\n--peer is HOST:PORT\n")
         for words, why in ((["--journal", Path(folder, "none.journal")], "no such time"), ([], "there is no --journal")):
             ended("host", TWICE, "--sync", "soon", *words, status=2,
                   error=f"--sync soon: {why}\n--sync is always, never or MILLISECONDS, 1 to 60000\n")
@@ -61,7 +65,7 @@ def refused_starts():
 def refused_tokens():
     """Which line of a file of tokens is refused is told, and why."""
     rights = "behind the token is neither * nor read nor ORIGIN[,ORIGIN].."
-    characters = "a token is 1 to 128 characters from ! to ~"
+    characters = "a token is 1 to 122 characters from ! to ~"
     nothing = "there is nothing behind the token"
     with tempfile.TemporaryDirectory() as folder:
         file = Path(folder, "tokens")
@@ -71,21 +75,24 @@ def refused_tokens():
                 ("one 9", 1, "line 1: no such origin 9"), ("one 32\n", 1, "line 1: no such origin 32"),
                 ("one 4294967296\n", 1, f"line 1: {rights}"), ("one 0,\n", 1, f"line 1: {rights}"), ("one 00\n", 1, f"line 1: {rights}"),
                 ("one  0\n", 1, f"line 1: {rights}"), ("one all\n", 1, f"line 1: {rights}"), ("one *\r\n", 1, "line 1: it ends with a carriage return"),
-                (" *\n", 1, f"line 1: {characters}"), (" 9\n", 1, f"line 1: {characters}"), ("x" * 129 + " *\n", 1, f"line 1: {characters}"),
+                (" *\n", 1, f"line 1: {characters}"), (" 9\n", 1, f"line 1: {characters}"), ("x" * 123 + " *\n", 1, f"line 1: {characters}"),
                 ("ä *\n", 1, f"line 1: {characters}"), ("one *\ntwo 0\n#\none read\n", 4, "line 4: its token stands in a line in front of it too"),
                 ("", 1, "it has no token"), ("# nothing\n\n", 1, "it has no token")):
             file.write_text(text)
             ended("host", TWICE, "--tokens", file, status=3, error=f"{file}: {why}\ntokens refused at line {line}\n")
-        for text, line in (("a:1 x\nb:1\n", 2), ("# x\n x\n", 2), ("a:1 \n", 1), ("a:1 x y\n", 1)):
+        for text, line in (("a:1 x\nb:1\n", 2), ("# x\n x\n", 2), ("a:1 \n", 1), ("a:1 x y\n", 1), ("a:1 x firs\n", 1), ("a:1  first\n", 1), ("a:1 x first \n", 1),
+                           ("a:1 x first first\n", 1), ("a:1 " + "x" * 123, 1)):
             file.write_text(text)
-            ended("host", TWICE, "--peer-tokens", file, status=3, error=f"{file}: line {line}: not HOST:PORT TOKEN\ntokens of peers refused at line {line}\n")
+            ended("host", TWICE, "--peer-tokens", file, status=3, error=f"{file}: line {line}: neither HOST:PORT TOKEN nor HOST:PORT TOKEN first\n"
+                  f"tokens of peers refused at line {line}\n")
         file.write_bytes(b"#" * 1_048_577)
         for which, words in (("", "--tokens"), (" of peers", "--peer-tokens")):
             ended("host", TWICE, words, file, status=4, error=f"{file}: it has more than 1,048,576 bytes\ncannot read the tokens{which}\n")
         # The longest token, and what is passed over.
-        file.write_text("#\n\n" + "x" * 128 + " 0,1,1\none read")
+        file.write_text("#\n\n" + "x" * 122 + " 0,1,1\none read")
         with Hosted("--tokens", file) as host:
             same(host.talk().ask("token one"), "may read", "a token")
+            same(host.talk().ask("token " + "x" * 122), "may 0 1", "the longest that a line can say")
 
 
 def journals():
@@ -119,10 +126,11 @@ def allowed_origins():
     said = "--allow-origin is http://HOST[:PORT] or https://HOST[:PORT]\n"
     for word in ("nonsense", "*", "null", "game.example", "ftp://game.example", "https://", "http://:80", "https://game.example/", "https://game.example:",
                  "https://game.example:port", "https://game.example:65536", "https://game.example:08", "https://[::1", "https://[]", "https://[::g]",
-                 "https://[::1]x", "https://a b", "https://a@b", "HTTPS://game.example", "https://a:1:2", "https://spiel.büro"):
+                 "https://[::1]x", "https://a b", "https://a@b", "HTTPS://game.example", "https://a:1:2", "https://spiel.büro", "https://Game.example",
+                 "https://game.example:443", "http://game.example:80", "http://game.example:0", "http://[::A]"):
         ended("host", TWICE, "--allow-origin", "https://good.example", "--allow-origin", word, status=2,
               error=f"--allow-origin {word}: no origin of a page\n{said}")
-    good = ["https://game.example", "http://game.example:8080", "https://a-b_c.Example:65535", "http://192.0.2.1", "https://[2001:db8::1]:443", "http://[::1]"]
+    good = ["https://game.example", "http://game.example:8080", "https://a-b_c.example:65535", "http://192.0.2.1", "https://[2001:db8::1]:80", "http://[::1]"]
     words = [it for origin in good for it in ("--allow-origin", origin)]
     with Hosted(*words, remarks=["pages refused: "]) as host:
         for origin in [*good, f"http://localhost:{host.port}"]:

@@ -24,6 +24,7 @@ pub(crate) struct Bells {
     horizon_microstep: AtomicU64,
     watches_steps: AtomicBool,
     step_bytes: AtomicU64,
+    keys: AtomicU64,
 }
 
 impl Bells {
@@ -39,6 +40,7 @@ impl Bells {
             horizon_microstep: AtomicU64::new(0),
             watches_steps: AtomicBool::new(false),
             step_bytes: AtomicU64::new(0),
+            keys: AtomicU64::new(0),
         }
     }
 
@@ -117,6 +119,19 @@ impl Bells {
     /// Whether some client watches steps.
     pub(crate) fn are_steps_watched(&self) -> bool {
         self.watches_steps.load(Ordering::SeqCst)
+    }
+
+    /// A client with this key may send lines from now on. The loop alone notes keys.
+    pub(crate) fn note_key(&self, key: u32) {
+        let keys = u64::from(key).saturating_add(1);
+        if self.keys() < keys {
+            self.keys.store(keys, Ordering::SeqCst);
+        }
+    }
+
+    /// All keys that clients ever had are below this: lanes that only later keys come to are empty.
+    pub(crate) fn keys(&self) -> u64 {
+        self.keys.load(Ordering::SeqCst)
     }
 
     /// The loop has taken so many bytes of steps in all.

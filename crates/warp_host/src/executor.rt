@@ -18,11 +18,11 @@ use warp_lanes::{Engine, Turn};
 use warp_line::Timeline;
 use warp_record::{Query, Reply};
 use warp_tag::OutOfMemory;
+use warp_trace::Labels;
 use warp_watch::{Question, Shown, Told, tell};
-use warp_world::Labels;
 
-/// How many looks at the lanes find nothing before the executor sleeps: they take some tens of microseconds.
-const LOOKS: u32 = 256;
+/// How many looks at the lanes find nothing before the executor sleeps.
+const LOOKS: u32 = 16;
 
 /// How many questions are answered before the lanes are looked at again.
 const MOST_QUESTIONS: u32 = 64;
@@ -104,10 +104,11 @@ impl<'a, T: Timeline> Executor<'a, T> {
         true
     }
 
-    /// One visit at each lane; whether a command was found.
+    /// One visit at each lane that a client ever came to; whether a command was found.
     fn visit_all<L: Ledger, P: Progress<T>>(&mut self, noter: &mut Noter<L, P>) -> bool {
+        let keys = usize::try_from(self.bells.keys()).unwrap_or(usize::MAX);
         let mut found = false;
-        for lane in 0..self.engine.lane_count() {
+        for lane in 0..self.engine.lane_count().min(keys) {
             found |= self.visit(lane, noter);
         }
         found

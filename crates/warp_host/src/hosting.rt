@@ -47,8 +47,8 @@ use warp_lanes::{Engine, Lane, Port, lane};
 use warp_line::Timeline;
 use warp_replica::Replica;
 use warp_tag::{Form, OutOfMemory};
+use warp_trace::Labels;
 use warp_watch::{Question, Shown, Told};
-use warp_world::Labels;
 
 /// The lanes between the loop and the executor.
 const LANES: usize = 16;
@@ -232,8 +232,8 @@ fn make_peers(
         if place < seats.len() {
             seats[place] = FIRST_PEER.saturating_add(all.len());
         }
-        let follower = Follower::new(form, Vec::from_slice(alloc, identity)?);
-        let peer = Peer::new(alloc, address, token, id, follower, common.now);
+        let follower = Follower::new(form, Vec::from_slice(alloc, identity)?, token);
+        let peer = Peer::new(alloc, address, id, follower, common.now);
         if all.push(peer).is_err() {
             return Err(HostFault::NoMemory);
         }

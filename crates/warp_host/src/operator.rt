@@ -122,6 +122,9 @@ fn tell_event<X: Eprint>(rt: &X, name: &str, event: PeerEvent, left_out: LeftOut
         PeerEvent::NotAllowed => eprintln!(rt;
             "peer {name} refused: it wants a token, or another{left_out}"
         ),
+        PeerEvent::Untold => eprintln!(rt;
+            "peer {name} refused: it tells its program behind a token alone (see --peer-tokens){left_out}"
+        ),
         PeerEvent::Strange => eprintln!(rt;
             "peer {name} lost: it said what answers no question{left_out}"
         ),

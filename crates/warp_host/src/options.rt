@@ -5,7 +5,7 @@ ghost use Rattle.warp_host.specs.Listening.{MayListen};
 
 use crate::journal_file::OpenJournal;
 use std::net::IpAddr;
-use warp_hub::Tokens;
+use warp_hub::{PeerToken, Tokens};
 
 /// The most clients at a time, where no number is given.
 pub const DEFAULT_CLIENTS: u32 = 1_024;
@@ -22,7 +22,7 @@ pub struct PeerAt {
     /// `HOST:PORT`.
     pub address: String,
     /// The token that it wants, if it wants one.
-    pub token: Option<Vec<u8>>,
+    pub token: Option<PeerToken>,
 }
 
 /// What a host is asked to do, beside its program and the texts on it.

@@ -5,7 +5,7 @@ use crate::names::Names;
 use crate::page::{page, policy};
 use crate::query::token_of;
 use bytes::Bytes;
-use http::{HeaderMap, HeaderName, HeaderValue, Method, Request, StatusCode};
+use http::{HeaderMap, HeaderName, HeaderValue, Method, Request, StatusCode, Version};
 use http_server::{Response, Service};
 use std::alloc::{AllocError, Global};
 use warp_hub::{Rights, Tokens};
@@ -183,6 +183,7 @@ impl Pages {
         headers.contains_key("host")
             && are_allowed(headers, "host", |name| names.is_host_allowed(name))
             && are_allowed(headers, "origin", |origin| names.is_origin_allowed(origin))
+            && (headers.contains_key("origin") || !is_cross_site(headers))
             && match request.uri().authority() {
                 Some(authority) => names.is_host_allowed(authority.as_str()),
                 None => true,
@@ -245,6 +246,9 @@ impl Pages {
         let headers = request.headers();
         if !is_upgrade(headers) || request.method().as_str() != "GET" {
             return ask_for_upgrade(response);
+        }
+        if request.version() != Version::HTTP_11 {
+            return Ok(refuse(response, StatusCode::BAD_REQUEST));
         }
         let Some(accept) = accept_of(headers) else {
             return Ok(refuse(response, StatusCode::BAD_REQUEST));
@@ -326,6 +330,11 @@ impl Pages {
         }
         self.answer(place, request, response)
     }
+}
+
+/// Whether a browser says that a page of another site asks.
+fn is_cross_site(headers: &HeaderMap) -> bool {
+    has(headers, "sec-fetch-site", "cross-site")
 }
 
 /// Whether the request asks for WebSocket, in the version that there is.

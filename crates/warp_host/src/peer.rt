@@ -46,7 +46,6 @@ pub(crate) enum Way {
 #[derive(Drop)]
 pub(crate) struct Peer {
     pub(crate) name: String,
-    token: Option<Vec<u8>>,
     pub(crate) id: ClientId,
     follower: Follower,
     pub(crate) way: Way,
@@ -77,14 +76,12 @@ impl Peer {
     pub(crate) fn new(
         alloc: Global,
         name: String,
-        token: Option<Vec<u8>>,
         id: ClientId,
         follower: Follower,
         now: Duration,
     ) -> Peer {
         Peer {
             name,
-            token,
             id,
             follower,
             way: Way::Waits(now),
@@ -219,11 +216,7 @@ impl Peer {
         self.said.clear();
         self.way = Way::Open(socket);
         self.since = Some(now);
-        let token = match &self.token {
-            Some(token) => Some(token.as_slice()),
-            None => None,
-        };
-        match self.follower.connect(token, &mut self.said) {
+        match self.follower.connect(&mut self.said) {
             Ok(()) => Ok(()),
             Err(_) => Err(Gone),
         }

@@ -51,9 +51,12 @@ impl<'a> Post<'a> {
         self.hub.refuse_records(refuses);
     }
 
-    /// A client has come, with these rights, or those that it has without a token.
+    /// A client has come, with these rights, or those that it has without a token. The executor looks at its lane from
+    /// now on.
     pub(crate) fn join(&mut self, rights: Option<Rights>) -> Result<ClientId, Unjoined> {
-        self.hub.join(rights)
+        let client = self.hub.join(rights)?;
+        self.bells.note_key(client.key);
+        Ok(client)
     }
 
     /// A client has gone.

@@ -9,7 +9,7 @@ use warp_lanes::Settler;
 use warp_line::Timeline;
 use warp_replica::Replica;
 use warp_tag::{OutOfMemory, Tag};
-use warp_world::{Labels, StepNotes};
+use warp_trace::{Labels, StepNotes};
 
 /// The places of the ring of what was executed.
 pub(crate) const RING_ROOM: usize = 1_024;

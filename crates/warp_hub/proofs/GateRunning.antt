@@ -4,8 +4,8 @@ use Rattle.std.specs.Prelude.{IfNone, IfSome, IsTrue, slice_get, slice_set}
 use Rattle.std.specs.List.{AllByRecursion}
 use Rattle.std.proofs.Math.Seq.{take-append_seam}
 use Rattle.warp_record.specs.declared.line.Line.{Line}
-use Rattle.warp_lanes.specs.declared.answer.Answer.{Answer}
-use Rattle.warp_hub.specs.declared.asker.ClientId.{ClientId}
+use Rattle.warp_replica.specs.declared.answer.Answer.{Answer}
+use Rattle.warp_watch.specs.declared.client_id.ClientId.{ClientId}
 use Rattle.warp_hub.specs.declared.rights.Rights.{Rights}
 use Rattle.warp_hub.specs.Rights.{may_send}
 use Rattle.warp_hub.specs.Gate.{GateState, GateStep, Sent, Handed, GateDoes, GateRuns, IsMatched, answers_handed, empty_gate, lines_sent}

@@ -1,8 +1,8 @@
 -- A lane's gate: what its port sent, what was handed on of what it fetched, and whose answers are missing.
 use Rattle.std.specs.Prelude.{◌≡◌, ℕ, ◌-◌, List, [], ◌∷◌, ◌++◌, Option, Some, None, length, map, take}
 use Rattle.warp_record.specs.declared.line.Line.{Line}
-use Rattle.warp_lanes.specs.declared.answer.Answer.{Answer}
-use Rattle.warp_hub.specs.declared.asker.ClientId.{ClientId}
+use Rattle.warp_replica.specs.declared.answer.Answer.{Answer}
+use Rattle.warp_watch.specs.declared.client_id.ClientId.{ClientId}
 
 -- the lines that the port sent, the answers that were handed on, and who asked those that were not, each in order
 pub record GateState : Type 0 where

@@ -5,7 +5,7 @@ use Rattle.atomic_table.specs.Seated.{TableId}
 use Rattle.warp_record.specs.declared.line.Line.{Line}
 use Rattle.warp_hub.specs.Gate.{GateState, GateStep, Sent, Handed, GateRuns, IsMatched, empty_gate}
 use Rattle.warp_hub.specs.Rights.{may_send}
-use Rattle.warp_hub.specs.declared.asker.ClientId.{ClientId}
+use Rattle.warp_watch.specs.declared.client_id.ClientId.{ClientId}
 use Rattle.warp_hub.specs.declared.rights.Rights.{Rights}
 
 -- the most lines of a client that are sent in a round

@@ -3,9 +3,9 @@ ghost use Rattle.std.specs.Prelude.{◌≡◌, ◌+◌, ◌<◌, ◌≤◌, IsTr
 ghost use Rattle.warp_record.specs.declared.line.Line.{Line};
 ghost use Rattle.warp_hub.specs.Hub.{IsSentWith, LaneRuns, most_lines};
 ghost use Rattle.warp_hub.specs.Rights.{may_send};
+ghost use Rattle.warp_hub.specs.Tokens.{most_wrong};
 ghost use Rattle.warp_hub.specs.declared.client.Phase.TheVariants.{Stalled};
 
-use crate::asker::ClientId;
 use crate::commons::Commons;
 use crate::gate::Gate;
 use crate::outbox::Outbox;
@@ -17,7 +17,7 @@ use std::mem;
 use warp_board::Board;
 use warp_record::{Fed, Feed, Line, Look, Refusal, Reply, read_front, read_line};
 use warp_tag::Form;
-use warp_watch::Question;
+use warp_watch::{ClientId, Question};
 
 /// How many lines of a client are taken in a round.
 const MOST_LINES: u32 = 64;
@@ -27,6 +27,9 @@ const MOST_IN_FLIGHT: u32 = 256;
 
 /// While so many bytes are to be written, no line is taken and no page of its own is asked for.
 pub(crate) const MOST_UNREAD: usize = 65_536;
+
+/// Behind so many wrong tokens a client is over.
+const MOST_WRONG: u32 = 3;
 
 /// The answer to what may not be sent.
 const NOT_ALLOWED: &[u8] = b"refused 13\n";
@@ -78,6 +81,12 @@ pub(crate) enum Phase {
     Asked,
 }
 
+/// Whether who said no token is answered too: which program it is, so that a host that follows this one may compare it
+/// before it says its token.
+fn is_for_all(word: &Option<Word>) -> bool {
+    matches!(word, Some(Word::Program))
+}
+
 /// A client.
 #[derive(Drop)]
 pub(crate) struct Client {
@@ -94,6 +103,8 @@ pub(crate) struct Client {
     pub(crate) is_ending: bool,
     pub(crate) is_over: bool,
     pub(crate) is_slow: bool,
+    /// How many wrong tokens it said.
+    wrong: u32,
     ghost allowed: { (said : Line) → phase ≡ Stalled said → IsTrue (may_send rights said) },
 }
 
@@ -112,6 +123,7 @@ impl Client {
             is_ending: false,
             is_over: false,
             is_slow: false,
+            wrong: 0,
         }
     }
 
@@ -162,7 +174,8 @@ impl Client {
 
     /// Writes these whole lines; where there is no memory for them the client is over.
     pub(crate) fn write(&mut self, text: &[u8])
-        ensures { self.new.rights ≡ self.old.rights }
+        ensures rights { self.new.rights ≡ self.old.rights }
+        ensures wrong { self.new.wrong ≡ self.old.wrong }
     {
         if self.is_over {
             return;
@@ -295,10 +308,11 @@ impl Client {
         if let Some(token) = read_token(text) {
             return Heard::Saying(Saying::Token(commons.facts.rights_of(token)));
         }
-        if !self.rights.is_known() {
+        let word = read_word(text);
+        if !self.rights.is_known() && !is_for_all(&word) {
             return Heard::Saying(Saying::NotAllowed);
         }
-        match read_word(text) {
+        match word {
             Some(word) => Heard::Saying(Saying::Word(word)),
             None => Heard::Saying(Saying::Refuse(Refusal::Syntax)),
         }
@@ -401,7 +415,7 @@ impl Client {
             Saying::Word(word) => self.answer_word(commons, word),
             Saying::Look(look) => self.answer_look(commons, board, look),
             Saying::Token(Some(rights)) => self.grant(commons, rights),
-            Saying::Token(None) => self.refuse_with(commons, NOT_ALLOWED),
+            Saying::Token(None) => self.refuse_token(commons),
             Saying::Refuse(refusal) => self.refuse(commons, refusal),
             Saying::NotAllowed => self.refuse_with(commons, NOT_ALLOWED),
             Saying::NotDurable => self.refuse_with(commons, NOT_DURABLE),
@@ -432,9 +446,24 @@ impl Client {
     fn refuse_with(&mut self, commons: &mut Commons, refusal: &[u8])
         ensures board { commons.new.reader ≡ commons.old.reader }
         ensures rights { self.new.rights ≡ self.old.rights }
+        ensures wrong { self.new.wrong ≡ self.old.wrong }
     {
         commons.count_refusal();
         self.write(refusal);
+    }
+
+    /// Refuses a wrong token. Behind a few of them the client is over.
+    fn refuse_token(&mut self, commons: &mut Commons)
+        ensures board { commons.new.reader ≡ commons.old.reader }
+        ensures rights { self.new.rights ≡ self.old.rights }
+        ensures counted { self.old.wrong < most_wrong → self.new.wrong ≡ self.old.wrong + 1 }
+        ensures most { most_wrong ≤ self.old.wrong + 1 → IsTrue self.new.is_over }
+    {
+        self.refuse_with(commons, NOT_ALLOWED);
+        self.wrong = self.wrong.saturating_add(1);
+        if self.wrong >= MOST_WRONG {
+            self.is_over = true;
+        }
     }
 
     /// Takes on these rights, and tells them.

@@ -39,6 +39,8 @@ pub enum PeerEvent {
     OtherProgram,
     /// It wants a token, or another one. It is not followed.
     NotAllowed,
+    /// It tells no program before a token, and the token is said behind the program alone. It is not followed.
+    Untold,
     /// It said what is no answer: the connection is to be ended, and tried again.
     Strange,
     /// There was no memory for a record of it: the connection is to be ended, and tried again.
@@ -57,8 +59,8 @@ pub enum PeerEvent {
 pub enum Phase {
     /// Nothing: there is no connection, or it is to be ended.
     Over,
-    /// The answer to `token T`.
-    Token,
+    /// The answer to `token T`, and whether it told the own program before.
+    Token(bool),
     /// The answer to `program`.
     Program,
     /// The record that was had last, again, from a host or a `serve`.
@@ -73,6 +75,16 @@ pub enum Phase {
     Level,
 }
 
+/// The token that a peer wants.
+#[derive(Drop)]
+pub struct PeerToken {
+    /// What it is.
+    pub text: Vec<u8>,
+    /// Whether it is said before the peer told its program, which may be another one. A host up to version 1.2.0 tells
+    /// its program behind a token alone.
+    pub is_first: bool,
+}
+
 /// Follows the log of one peer. Contracts see what it keeps of an unfinished line, the form of its records, what is due
 /// from the peer, and the place of the record that comes next.
 #[derive(Drop)]
@@ -80,6 +92,7 @@ pub struct Follower {
     form: Form,
     /// The own program's line.
     program: Vec<u8>,
+    token: Option<PeerToken>,
     feed: Feed,
     phase: Phase,
     /// The place of the record that comes next, from 1.
@@ -114,13 +127,14 @@ impl Model for Follower {
 
 impl Follower {
     /// A follower of a peer from the first place of its log on. The records are of this form; the own program's line is
-    /// what a host answers to `program`, without its line feed.
-    pub fn new(form: Form, program: Vec<u8>) -> Follower
+    /// what a host answers to `program`, without its line feed. The token is what the peer wants, if it wants one.
+    pub fn new(form: Form, program: Vec<u8>, token: Option<PeerToken>) -> Follower
         ensures { result ≡ record { kept = kept_of []; form = form; phase = Phase.Over; next = 1; missing = 0 } }
     {
         Follower {
             form,
             program,
+            token,
             feed: Feed::new(),
             phase: Phase::Over,
             next: 1,
@@ -151,22 +165,33 @@ impl Follower {
 
     /// A connection begins: says what is to be said first. What was handed to the hub and not answered is asked for
     /// again. `Err` leaves none.
-    pub fn connect(&mut self, token: Option<&[u8]>, said: &mut Vec<u8>) -> Result<(), OutOfMemory>
+    pub fn connect(&mut self, said: &mut Vec<u8>) -> Result<(), OutOfMemory>
         ensures begins { self.new ≡ record (unconnected self.old) { phase = self.new.phase } }
         ensures waits { follows self.new.phase ≡ false }
         ensures err { OnErr result (self.new.phase ≡ Phase.Over) }
     {
         self.lose();
-        if let Some(token) = token {
-            say(said, b"token ", token)?;
-        }
+        let is_said = self.say_token(true, said)?;
         say(said, b"program", b"")?;
-        self.phase = if token.is_some() {
-            Phase::Token
+        self.phase = if is_said {
+            Phase::Token(false)
         } else {
             Phase::Program
         };
         Ok(())
+    }
+
+    /// Says the token, if there is one and it is said now: at first, or once the peer told the own program. Whether it
+    /// was said.
+    fn say_token(&self, is_first: bool, said: &mut Vec<u8>) -> Result<bool, OutOfMemory> {
+        let Some(token) = &self.token else {
+            return Ok(false);
+        };
+        if token.is_first != is_first {
+            return Ok(false);
+        }
+        say(said, b"token ", &token.text)?;
+        Ok(true)
     }
 
     /// The connection has ended.
@@ -321,6 +346,16 @@ impl Follower {
         event
     }
 
+    /// The connection is to be ended, since the peer said this: that it wants a token, or what answers no question.
+    fn end_by(&mut self, line: &[u8]) -> PeerEvent
+        ensures over { self.new ≡ record self.old { phase = Phase.Over } }
+    {
+        if is_keyword(line, REFUSED_13) {
+            return self.end(PeerEvent::NotAllowed);
+        }
+        self.end(PeerEvent::Strange)
+    }
+
     /// Hears a line of the peer.
     fn hear(&mut self, line: &[u8], said: &mut Vec<u8>, handed: &mut Vec<u8>) -> Option<PeerEvent>
         ensures hears { Hears self.old line.now handed.old.items result self.new handed.new.items }
@@ -328,7 +363,7 @@ impl Follower {
     {
         match self.phase {
             Phase::Over | Phase::Level => Some(self.end(PeerEvent::Strange)),
-            Phase::Token => self.on_token(line),
+            Phase::Token(is_told) => self.on_token(line, is_told, said),
             Phase::Program => self.on_program(line, said),
             Phase::Check(is_host) => self.on_check(line, is_host, said),
             Phase::Watch => self.on_watching(line),
@@ -337,12 +372,15 @@ impl Follower {
         }
     }
 
-    /// Hears the answer to `token T`. A `serve` knows no such line.
-    fn on_token(&mut self, line: &[u8]) -> Option<PeerEvent>
+    /// Hears the answer to `token T`; of a peer that told no program before it is due now. A `serve` knows no such line.
+    fn on_token(&mut self, line: &[u8], is_told: bool, said: &mut Vec<u8>) -> Option<PeerEvent>
         ensures others { self.new ≡ record self.old { phase = self.new.phase } }
     {
         if is_keyword(line, REFUSED_13) {
             return Some(self.end(PeerEvent::NotAllowed));
+        }
+        if is_told {
+            return self.on_rights(line, said);
         }
         if line.starts_with(b"may ") || is_keyword(line, REFUSED_1) {
             self.phase = Phase::Program;
@@ -351,12 +389,22 @@ impl Follower {
         Some(self.end(PeerEvent::Strange))
     }
 
+    /// Hears what a host of the own program answers to the token.
+    fn on_rights(&mut self, line: &[u8], said: &mut Vec<u8>) -> Option<PeerEvent>
+        ensures others { self.new ≡ record self.old { phase = self.new.phase } }
+    {
+        if !line.starts_with(b"may ") {
+            return Some(self.end(PeerEvent::Strange));
+        }
+        self.check(true, said)
+    }
+
     /// Hears the answer to `program`.
     fn on_program(&mut self, line: &[u8], said: &mut Vec<u8>) -> Option<PeerEvent>
         ensures others { self.new ≡ record self.old { phase = self.new.phase } }
     {
         if is_keyword(line, &self.program) {
-            return self.check(true, said);
+            return self.show(said);
         }
         if is_keyword(line, REFUSED_1) {
             return self.check(false, said);
@@ -365,9 +413,28 @@ impl Follower {
             return Some(self.end(PeerEvent::OtherProgram));
         }
         if is_keyword(line, REFUSED_13) {
-            return Some(self.end(PeerEvent::NotAllowed));
+            let event = if self.token.is_some() {
+                PeerEvent::Untold
+            } else {
+                PeerEvent::NotAllowed
+            };
+            return Some(self.end(event));
         }
         Some(self.end(PeerEvent::Strange))
+    }
+
+    /// Says the token to a host of the own program, unless it was said or there is none: then it goes on.
+    fn show(&mut self, said: &mut Vec<u8>) -> Option<PeerEvent>
+        ensures others { self.new ≡ record self.old { phase = self.new.phase } }
+    {
+        match self.say_token(false, said) {
+            Ok(false) => self.check(true, said),
+            Ok(true) => {
+                self.phase = Phase::Token(true);
+                None
+            }
+            Err(_) => Some(self.end(PeerEvent::NoMemory)),
+        }
     }
 
     /// Asks for the record that was had last, to see that the peer's log is the same; if there is one.
@@ -391,7 +458,7 @@ impl Follower {
         let there = match read_reply(self.form, line) {
             Some(Reply::Log { record, .. }) => Some(record),
             Some(Reply::Nothing { .. }) => None,
-            _ => return Some(self.end(PeerEvent::Strange)),
+            _ => return Some(self.end_by(line)),
         };
         if there != self.last {
             self.start_over();
@@ -432,7 +499,7 @@ impl Follower {
         ensures others { self.new ≡ record self.old { phase = self.new.phase } }
     {
         if !line.starts_with(b"watching ") {
-            return Some(self.end(PeerEvent::Strange));
+            return Some(self.end_by(line));
         }
         self.phase = Phase::Pushed;
         Some(PeerEvent::Found {

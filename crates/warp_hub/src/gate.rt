@@ -2,12 +2,12 @@
 ghost use Rattle.std.specs.Prelude.{◌≡◌, ◌≤◌, [], IfErr, IfNone, IfOk, IfSome, OnOk};
 ghost use Rattle.warp_hub.specs.Gate.{GateDoes, Handed, Sent, empty_gate};
 
-use crate::asker::ClientId;
 use std::alloc::{AllocError, Global};
 use std::collections::VecDeque;
 use std::marker::Model;
 use warp_lanes::{Answer, Port};
 use warp_record::Line;
+use warp_watch::ClientId;
 
 /// How many answers of a port may be missing.
 const MOST_MISSING: usize = 128;

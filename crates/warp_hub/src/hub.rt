@@ -3,7 +3,6 @@ ghost use Rattle.std.specs.Prelude.{◌≡◌, ◌≤◌, ◌%◌, ℕ, [], All,
 ghost use Rattle.warp_hub.specs.Gate.{empty_gate};
 ghost use Rattle.warp_hub.specs.Hub.{IsAllowedIn, IsHandedOn, LanesRun, MayRun};
 
-use crate::asker::ClientId;
 use crate::client::{Client, MOST_UNREAD};
 use crate::commons::{Commons, Counts, Facts, NO_COUNTS};
 use crate::gate::Gate;
@@ -19,7 +18,7 @@ use std::marker::Model;
 use warp_board::{Board, Reader};
 use warp_lanes::Port;
 use warp_tag::OutOfMemory;
-use warp_watch::{Question, Told};
+use warp_watch::{ClientId, Question, Told};
 
 /// How many questions may be on their way to the executor.
 const MOST_ASKED: usize = 64;

@@ -2,13 +2,13 @@
 ghost use Rattle.std.specs.Prelude.{◌≡◌, ◌+◌, ◌≤◌, ◌%◌, IfNone, length};
 ghost use Rattle.warp_hub.specs.Hub.{IsAllowedIn, IsHandedOn, LaneRuns, LanesRun, MayRun};
 
-use crate::asker::ClientId;
 use crate::commons::Commons;
 use crate::gate::Gate;
 use crate::place::Place;
 use warp_board::Board;
 use warp_lanes::Answer;
 use warp_record::Reply;
+use warp_watch::ClientId;
 
 /// Takes lines of a client off these bytes: how many bytes it took. They go to the lane that its key has.
 pub(crate) fn take_at(

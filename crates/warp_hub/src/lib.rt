@@ -6,7 +6,6 @@
 //! loses nobody anything.
 #![tactic(auto)]
 
-mod asker;
 mod client;
 mod commons;
 mod follow;
@@ -26,12 +25,12 @@ mod watches;
 mod watching;
 mod words;
 
-pub use asker::ClientId;
 pub use commons::{Counts, Facts};
-pub use follow::{Follower, PeerEvent, Phase};
+pub use follow::{Follower, PeerEvent, PeerToken, Phase};
 pub use hub::{Hub, Unjoined};
 pub use laws::{answers_go_to_their_askers, pages_leave_nothing_out};
 pub use rights::{MOST_ORIGINS, Rights};
 pub use said::is_said;
 pub use tokens::{Tokens, TokensFault};
+pub use warp_watch::ClientId;
 pub use words::{Subject, Watch, Word, read_token, read_word};

@@ -2,7 +2,6 @@
 ghost use Rattle.std.specs.Prelude.{◌≡◌, ◌+◌, ◌≤◌, IsSome, None, false, length, true};
 ghost use Rattle.warp_hub.specs.Hub.{IsAllowed, LaneRuns, most_lines};
 
-use crate::asker::ClientId;
 use crate::client::Client;
 use crate::commons::Commons;
 use crate::gate::Gate;
@@ -13,6 +12,7 @@ use std::collections::VecDeque;
 use std::marker::Model;
 use warp_board::Board;
 use warp_record::Reply;
+use warp_watch::ClientId;
 
 /// The keys of the clients for which there is something to do, and of those that ask.
 #[derive(Drop)]

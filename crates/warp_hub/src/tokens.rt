@@ -1,9 +1,9 @@
 //! Tokens: who may send what, as a file says it. They are kept and compared as digests.
 
-ghost use Rattle.std.specs.Prelude.{◌≡◌};
+ghost use Rattle.std.specs.Prelude.{◌≡◌, ◌∷◌, ◌++◌, IfSome, OnErr, OnOk};
 ghost use Rattle.std.specs.Str.{bytes_eq};
 ghost use Rattle.sha2.specs.Sha256.{sha256};
-ghost use Rattle.warp_hub.specs.Tokens.{rights_of};
+ghost use Rattle.warp_hub.specs.Tokens.{IsAdded, IsEntry, SaysRights, rights_of};
 
 use crate::rights::{MOST_ORIGINS, Rights};
 use crate::words::is_token;
@@ -81,8 +81,13 @@ fn read_origins(form: Form, text: &[u8]) -> Option<[bool; MOST_ORIGINS]> {
     Some(origins)
 }
 
+/// The most bytes of a token that a line of 128 bytes can say.
+const LONGEST_SAID: usize = 122;
+
 /// What the second word of a line says.
-fn read_rights(form: Form, text: &[u8]) -> Option<Rights> {
+fn read_rights(form: Form, text: &[u8]) -> Option<Rights>
+    ensures { IfSome result (SaysRights text.now) }
+{
     if is_keyword(text, b"*") {
         return Some(Rights::All);
     }
@@ -92,14 +97,28 @@ fn read_rights(form: Form, text: &[u8]) -> Option<Rights> {
     Some(Rights::Origins(read_origins(form, text)?))
 }
 
-/// The token and the rights that a line has.
-fn read_entry(form: Form, line: &[u8]) -> Option<(&[u8], Rights)> {
+/// What stands in front of the first space, and behind it.
+fn cut_at_space(line: &[u8]) -> Option<(&[u8], &[u8])>
+    ensures { IfSome result (λ cut. line.now ≡ cut.0.now ++ 32 ∷ cut.1.now) }
+{
     let space = line.iter().position(|byte| *byte == b' ')?;
-    let token = &line[..space];
-    if !is_token(token) {
+    let (front, rest) = line.split_at(space);
+    let (first, behind) = rest.split_first()?;
+    if *first != b' ' {
         return None;
     }
-    let rights = read_rights(form, &line[space + 1..])?;
+    Some((front, behind))
+}
+
+/// The token and the rights that a line has.
+fn read_entry(form: Form, line: &[u8]) -> Option<(&[u8], Rights)>
+    ensures { IfSome result (λ entry. IsEntry line.now entry.0.now entry.1) }
+{
+    let (token, text) = cut_at_space(line)?;
+    if !is_token(token) || token.len() > LONGEST_SAID {
+        return None;
+    }
+    let rights = read_rights(form, text)?;
     Some((token, rights))
 }
 
@@ -130,7 +149,10 @@ impl Tokens {
     }
 
     /// Takes on the line with this number.
-    fn add(&mut self, form: Form, line: &[u8], number: u32) -> Result<(), TokensFault> {
+    fn add(&mut self, form: Form, line: &[u8], number: u32) -> Result<(), TokensFault>
+        ensures added { OnOk result (IsAdded line.now self.old self.new) }
+        ensures err { OnErr result (self.new ≡ self.old) }
+    {
         let Some((token, rights)) = read_entry(form, line) else {
             return Err(TokensFault::Line(number));
         };

@@ -1,7 +1,6 @@
 //! All watchings of a hub: who watches what, what is asked for them, and what is pushed to them.
 ghost use Rattle.std.specs.Prelude.{◌≡◌};
 
-use crate::asker::ClientId;
 use crate::commons::Commons;
 use crate::page::{Page, Steps};
 use crate::place::{Lists, Place};
@@ -9,7 +8,7 @@ use crate::shared::{Latest, Tail};
 use crate::words::Subject;
 use std::alloc::Global;
 use std::collections::VecDeque;
-use warp_watch::{Question, Told};
+use warp_watch::{ClientId, Question, Told};
 
 /// The watchings.
 #[derive(Drop)]

@@ -12,8 +12,8 @@ use Rattle.warp_table.specs.Records.{set_of}
 use Rattle.warp_session.specs.Session.{FailsSo, GivesAll, GivesPiece, Session, Transcribes}
 use Rattle.warp_session.specs.declared.desk_session.SessionEnd.{SessionEnd}
 use Rattle.warp_session.specs.declared.desk_session.SessionEnd.TheVariants.{End, ReadFault, WriteFault, TooManyReads, NoMemory}
-use Rattle.warp_world.specs.Labels.{Names}
-use Rattle.warp_world.specs.Trace.{IsTrace}
+use Rattle.warp_trace.specs.Labels.{Names}
+use Rattle.warp_trace.specs.Trace.{IsTrace}
 use Rattle.warpd.specs.Gathered.{Gathered, Gathers, lacks_memory}
 use Rattle.warpd.specs.Outcome.{GivesAmply, IsTraceOf, PrintsRows, Seen, StopsReading, TracesOver, WritesNothing, end_outcome}
 use Rattle.warpd.specs.declared.outcome.Outcome.{Outcome}

@@ -7,7 +7,7 @@ use Rattle.warp_record.specs.declared.reply.Refusal.TheVariants.{NoMemory}
 use Rattle.warp_record.specs.declared.reply.Reply.{Reply}
 use Rattle.warp_record.specs.declared.reply.Reply.TheVariants.{Refused}
 use Rattle.warp_replica.specs.Desk.{LocalGives, LocalState}
-use Rattle.warp_world.specs.Recorded.{recorded_code}
+use Rattle.warp_trace.specs.Recorded.{recorded_code}
 
 -- the program and its records; and whether a record was refused for want of memory
 pub record Gathered : Type 0 where

@@ -23,10 +23,10 @@ use Rattle.warp_record.specs.declared.record.Record.{Record}
 use Rattle.warp_record.specs.declared.reply.Reply.{Reply}
 use Rattle.warp_replica.specs.Gives.{Gives}
 use Rattle.warp_table.specs.Records.{Records, set_of}
-use Rattle.warp_world.specs.Labels.{Names as TraceNames}
-use Rattle.warp_world.specs.Trace.{IsTrace}
-use Rattle.warp_world.specs.declared.printer.TraceFault.{TraceFault}
-use Rattle.warp_world.specs.declared.printer.TraceFault.TheVariants as trace_fault
+use Rattle.warp_trace.specs.Labels.{Names as TraceNames}
+use Rattle.warp_trace.specs.Trace.{IsTrace}
+use Rattle.warp_trace.specs.declared.printer.TraceFault.{TraceFault}
+use Rattle.warp_trace.specs.declared.printer.TraceFault.TheVariants as trace_fault
 use Rattle.warp_session.specs.LocalSession.{TranscribesAll, TranscribesSoFar, TranscribesSome}
 use Rattle.warp_session.specs.Session.{FailsSo, Session}
 use Rattle.warp_session.specs.Stream.{WritesFront}
@@ -44,7 +44,7 @@ use Rattle.warp_session.specs.declared.desk_session.SessionEnd.{SessionEnd}
 use Rattle.warp_session.specs.declared.desk_session.SessionEnd.TheVariants.{End, ReadFault, WriteFault, TooManyReads, NoMemory}
 use Rattle.warpd.specs.Gathered.{lacks_memory}
 use Rattle.warpd.specs.declared.outcome.Outcome.{Outcome}
-use Rattle.warpd.specs.declared.outcome.Outcome.TheVariants.{Done, Words, TooManyLanes, NoAddress, NotOpen, TooManyPeers, NoOrigin, Program, Schedule, ShownTokens, BadTokens, NoTokens, NoAction, NoSync, JournalInUse, NoJournal, OtherJournal, DamagedJournal, RefusedJournal, LostJournal, NoProgram, NoSchedule, Input, Output, Memory, Listen, Accept}
+use Rattle.warpd.specs.declared.outcome.Outcome.TheVariants.{Done, Words, TooManyLanes, NoAddress, NotOpen, TooManyPeers, NoPeer, NoOrigin, Program, Schedule, ShownTokens, BadTokens, NoTokens, NoAction, NoSync, JournalInUse, NoJournal, OtherJournal, DamagedJournal, RefusedJournal, LostJournal, NoProgram, NoSchedule, Input, Output, Memory, Listen, Accept}
 use Rattle.warpd.specs.declared.outcome.TokenFile.{TokenFile}
 use Rattle.warpd.specs.declared.outcome.TokenFile.TheVariants.{Clients, Peers}
 
@@ -56,6 +56,7 @@ status_of TooManyLanes = 2
 status_of NoAddress = 2
 status_of NotOpen = 2
 status_of TooManyPeers = 2
+status_of NoPeer = 2
 status_of NoOrigin = 2
 status_of (Program refusal) = 3
 status_of (Schedule line) = 3
@@ -78,10 +79,10 @@ status_of Memory = 5
 status_of Listen = 6
 status_of Accept = 6
 
--- what is said where others may read this file of tokens
+-- what is said where others may read or write this file of tokens
 abbrev pub shown_words : TokenFile → List ℕ
-shown_words Clients = codes "others may read the tokens\n"
-shown_words Peers = codes "others may read the tokens of peers\n"
+shown_words Clients = codes "others may read or write the tokens\n"
+shown_words Peers = codes "others may read or write the tokens of peers\n"
 
 -- what is said where this file of tokens was refused, in front of the line
 abbrev pub bad_words : TokenFile → List ℕ
@@ -101,6 +102,7 @@ told_line TooManyLanes = codes "too many lanes\n"
 told_line NoAddress = codes "where to listen is ADDRESS:PORT\n"
 told_line NotOpen = codes "listening there wants --tokens, or --open if that is meant\n"
 told_line TooManyPeers = codes "too many peers\n"
+told_line NoPeer = codes "--peer is HOST:PORT\n"
 told_line NoOrigin = codes "--allow-origin is http://HOST[:PORT] or https://HOST[:PORT]\n"
 told_line (ShownTokens which) = shown_words which
 told_line (BadTokens which line) = bad_words which ++ decimal line ++ codes "\n"
@@ -294,7 +296,7 @@ open_outcome open_fault.NoMemory = Memory
 -- the run ends so before a host begins: for its words, its files of tokens, its journal, or want of memory
 abbrev pub KeepsFromHosting : Outcome → Type 0
 KeepsFromHosting outcome =
-    (outcome ≡ NoAddress) ⊎ (outcome ≡ NotOpen) ⊎ (outcome ≡ TooManyPeers) ⊎ (outcome ≡ NoOrigin) ⊎ (outcome ≡ NoSync) ⊎ (outcome ≡ Memory)
+    (outcome ≡ NoAddress) ⊎ (outcome ≡ NotOpen) ⊎ (outcome ≡ TooManyPeers) ⊎ (outcome ≡ NoPeer) ⊎ (outcome ≡ NoOrigin) ⊎ (outcome ≡ NoSync) ⊎ (outcome ≡ Memory)
     ⊎ ((fault : OpenFault) × (outcome ≡ open_outcome fault))
     ⊎ ((which : TokenFile) × (outcome ≡ ShownTokens which))
     ⊎ ((which : TokenFile) × (line : ℕ) × (outcome ≡ BadTokens which line))

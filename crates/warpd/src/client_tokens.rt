@@ -2,7 +2,7 @@
 ghost use Rattle.std.specs.Prelude.{IfErr};
 ghost use Rattle.warpd.specs.Outcome.{KeepsFromHosting};
 
-use crate::host_words::TokenText;
+use crate::host_words::{LONGEST_SAID, TokenText};
 use crate::outcome::{Outcome, TokenFile};
 use crate::telling::{tell_line, tell_no_origin, tell_of_file};
 use std::alloc::Global;
@@ -10,9 +10,6 @@ use std::io::Eprint;
 use warp_hub::{Tokens, TokensFault};
 use warp_record::read_u32;
 use warp_step::Program;
-
-/// The most bytes of a token.
-const MOST_TOKEN: usize = 128;
 
 /// The tokens in the text of the file of tokens, if there is one: one at least, and no origin that the program does not
 /// have.
@@ -106,11 +103,11 @@ fn tell_bad_line<X: Eprint>(rt: &X, file: &TokenText, line: u32, origins: u32) {
     }
 }
 
-/// Whether a token stands in front of the first space of a line: 1 to 128 bytes of `!` to `~`.
+/// Whether a token stands in front of the first space of a line: 1 to 122 bytes of `!` to `~`.
 fn has_token(line: &[u8]) -> bool {
     match parts_of(line) {
         Some((token, _)) => {
-            let fits = !token.is_empty() && token.len() <= MOST_TOKEN;
+            let fits = !token.is_empty() && token.len() <= LONGEST_SAID;
             fits && token.iter().all(|byte| byte.is_ascii_graphic())
         }
         None => false,
@@ -126,6 +123,6 @@ fn why_none(line: &[u8]) -> &'static str {
     } else if has_token(line) {
         "behind the token is neither * nor read nor ORIGIN[,ORIGIN].."
     } else {
-        "a token is 1 to 128 characters from ! to ~"
+        "a token is 1 to 122 characters from ! to ~"
     }
 }

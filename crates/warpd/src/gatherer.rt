@@ -11,7 +11,7 @@ use warp_exchange::Desk;
 use warp_record::{Line, Refusal, Reply};
 use warp_step::Program;
 use warp_tag::Form;
-use warp_world::Recorder;
+use warp_trace::Recorder;
 
 /// A recorder, and whether it refused a record for want of memory.
 #[derive(Drop)]
@@ -53,18 +53,12 @@ impl Desk for Gatherer {
 
     ghost form_of = { λ g. g.taken.program.form };
 
-    ghost together = { false };
-
     /// What the recorder replies: it takes a record, and refuses all else.
     fn ask(&mut self, line: Line) -> Reply {
         let is_record = brings_record(&line);
         let reply = self.recorder.ask(line);
         self.has_lacked |= is_record & is_want(&reply);
         reply
-    }
-
-    fn asks_together() -> bool {
-        false
     }
 
     /// The form of the recorder's program.

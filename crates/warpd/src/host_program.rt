@@ -18,7 +18,7 @@ use std::io::{Eprint, Read};
 use warp_prog::{LoadError, NamedProgram, explanation, fingerprint, load_named, names_line};
 use warp_step::Program;
 use warp_tag::Form;
-use warp_world::Labels;
+use warp_trace::Labels;
 
 /// A program, the bytes of its file, and what is told of it.
 #[derive(Drop)]

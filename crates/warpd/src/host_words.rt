@@ -5,7 +5,7 @@ ghost use Rattle.std.specs.Option.{is_some};
 ghost use Rattle.warp_host.specs.Listening.{MayListen};
 ghost use Rattle.warpd.specs.Outcome.{KeepsFromHosting};
 
-use crate::origins::is_origin;
+use crate::origins::{is_address, is_origin};
 use crate::outcome::{Outcome, TokenFile};
 use crate::telling::{tell_file, tell_line, tell_of_file, tell_peers, tell_shown, tell_word};
 use std::alloc::{AllocError, Global};
@@ -14,6 +14,7 @@ use std::io::{Eprint, Read};
 use std::net::{Ipv4Addr, SocketAddr};
 use std::os::unix::fs::PermissionsExt;
 use warp_host::{DEFAULT_CLIENTS, MOST_PEERS, PeerAt, SyncWhen, may_listen};
+use warp_hub::PeerToken;
 use warp_words::HostJob;
 
 /// The port that is listened on where none is given.
@@ -25,8 +26,11 @@ const LONGEST_WAIT: u64 = 60_000;
 /// The most bytes of a file of tokens.
 const LONGEST_TOKENS: u64 = 1_048_576;
 
-/// The bits of a file's mode that let the group or others read it.
-const OTHERS_READ: u32 = 0o044;
+/// The most bytes of a token that a line of 128 bytes can say.
+pub(crate) const LONGEST_SAID: usize = 122;
+
+/// The bits of a file's mode that let the group or others read or write it.
+const OTHERS_MAY: u32 = 0o066;
 
 /// A file of tokens.
 #[derive(Drop)]
@@ -72,7 +76,7 @@ fn address_of<X: Eprint>(rt: &X, word: Option<&str>) -> Result<SocketAddr, Outco
     }
 }
 
-/// All bytes of a file of tokens, which others may not read.
+/// All bytes of a file of tokens, which others may neither read nor write.
 fn token_bytes<X: Files + Eprint>(
     rt: &X,
     alloc: Global,
@@ -107,7 +111,7 @@ fn file_bytes<X: Eprint, O: OpenFile + Read + Drop>(
             return Err(Outcome::NoTokens(which));
         }
     };
-    if mode & OTHERS_READ != 0 {
+    if mode & OTHERS_MAY != 0 {
         tell_shown(rt, name, mode);
         return Err(Outcome::ShownTokens(which));
     }
@@ -142,14 +146,19 @@ fn tokens_of<X: Files + Eprint>(
     }
 }
 
-/// The peer and the token that a line of the peers' tokens has.
-fn peer_token(line: &[u8]) -> Option<(&[u8], &[u8])> {
+/// The peer and the token that a line of the peers' tokens has, and whether that is said first.
+fn peer_token(line: &[u8]) -> Option<(&[u8], &[u8], bool)> {
     let space = line.iter().position(|byte| *byte == b' ')?;
-    let token = &line[space + 1..];
-    if space == 0 || token.is_empty() || !token.iter().all(|byte| byte.is_ascii_graphic()) {
+    let rest = &line[space + 1..];
+    let (token, is_first) = match rest.strip_suffix(b" first") {
+        Some(token) => (token, true),
+        None => (rest, false),
+    };
+    let fits = !token.is_empty() && token.len() <= LONGEST_SAID;
+    if space == 0 || !fits || !token.iter().all(|byte| byte.is_ascii_graphic()) {
         return None;
     }
-    Some((&line[..space], token))
+    Some((&line[..space], token, is_first))
 }
 
 /// The line, from 1, of the peers' tokens that is none, if one is.
@@ -166,11 +175,12 @@ fn bad_peer_line(text: &[u8]) -> Option<u64> {
 }
 
 /// The token of this peer in the peers' tokens, if it has one.
-fn token_for(alloc: Global, text: &[u8], peer: &str) -> Result<Option<Vec<u8>>, AllocError> {
+fn token_for(alloc: Global, text: &[u8], peer: &str) -> Result<Option<PeerToken>, AllocError> {
     for line in text.split(|byte| *byte == b'\n') {
-        if let Some((name, token)) = peer_token(line) {
+        if let Some((name, token, is_first)) = peer_token(line) {
             if name == peer.as_bytes() {
-                return Ok(Some(Vec::from_slice(alloc, token)?));
+                let text = Vec::from_slice(alloc, token)?;
+                return Ok(Some(PeerToken { text, is_first }));
             }
         }
     }
@@ -202,6 +212,17 @@ fn has_no_origin<X: Eprint>(rt: &X, words: &[&str]) -> bool {
     for word in words {
         if !is_origin((*word).as_bytes()) {
             tell_word(rt, "--allow-origin", *word, "no origin of a page");
+            return true;
+        }
+    }
+    false
+}
+
+/// Whether one of these words is no place of a peer. The first is told.
+fn has_no_peer<X: Eprint>(rt: &X, words: &[&str]) -> bool {
+    for word in words {
+        if !is_address((*word).as_bytes()) {
+            tell_word(rt, "--peer", *word, "no host with a port");
             return true;
         }
     }
@@ -240,6 +261,9 @@ fn peers_with_tokens<X: Files + Eprint>(
         tell_peers(rt, job.peers.len(), MOST_PEERS);
         return Err(Outcome::TooManyPeers);
     }
+    if has_no_peer(rt, &job.peers) {
+        return Err(Outcome::NoPeer);
+    }
     let text = match tokens_of(rt, alloc, job.peer_tokens, TokenFile::Peers)? {
         Some(file) => file.text,
         None => Vec::new(alloc),
@@ -249,7 +273,7 @@ fn peers_with_tokens<X: Files + Eprint>(
             rt,
             job.peer_tokens.unwrap_or(""),
             line,
-            "not HOST:PORT TOKEN",
+            "neither HOST:PORT TOKEN nor HOST:PORT TOKEN first",
         );
         return Err(Outcome::BadTokens(TokenFile::Peers, line));
     }

@@ -20,8 +20,8 @@ use warp_journal::{first_line, old_first_line};
 use warp_line::Timeline;
 use warp_replica::Replica;
 use warp_session::{Sink, Source, write_all};
+use warp_trace::Labels;
 use warp_words::HostJob;
-use warp_world::Labels;
 
 /// The version that an operator is told: what `--version` prints.
 const VERSION: &str = "1.2.0";

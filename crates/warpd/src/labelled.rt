@@ -15,7 +15,7 @@ use std::fs::{self, Files};
 use std::io::Read;
 use warp_prog::{LabelledProgram, load_labelled};
 use warp_step::Program;
-use warp_world::Labels;
+use warp_trace::Labels;
 
 /// A program, and the names of its parts.
 #[derive(Drop)]

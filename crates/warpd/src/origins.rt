@@ -1,28 +1,48 @@
-//! What the origin of a page is, as a browser says it.
+//! What the origin of a page is, as a browser spells it, and what names a peer.
 
 use warp_record::read_u32;
 
 /// The greatest number of a port.
 const LAST_PORT: u32 = 65_535;
 
-/// Whether the text is `http://HOST[:PORT]` or `https://HOST[:PORT]`. HOST is a name or an address; one of IPv6 stands in
-/// brackets.
+/// The ports that a browser leaves out.
+const HTTP_PORT: u32 = 80;
+
+const HTTPS_PORT: u32 = 443;
+
+/// Whether the text is `http://HOST[:PORT]` or `https://HOST[:PORT]` as a browser spells it: in small letters, without
+/// the port that is meant where none stands. HOST is a name or an address; one of IPv6 stands in brackets.
 pub(crate) fn is_origin(text: &[u8]) -> bool {
     if let Some(place) = text.strip_prefix(b"https://") {
-        return is_place(place);
+        return is_spelled(place, HTTPS_PORT);
     }
     match text.strip_prefix(b"http://") {
-        Some(place) => is_place(place),
+        Some(place) => is_spelled(place, HTTP_PORT),
         None => false,
     }
 }
 
-/// Whether the text is `HOST` or `HOST:PORT`.
-fn is_place(text: &[u8]) -> bool {
+/// Whether the text names a peer: `HOST:PORT`, with a port from 1.
+pub(crate) fn is_address(text: &[u8]) -> bool {
+    let end = end_of_host(text);
+    is_host(text.get(..end).unwrap_or(b"")) && port_of(text.get(end..).unwrap_or(b"")).is_some()
+}
+
+/// Whether the text is `HOST` or `HOST:PORT` in small letters, with another port than this.
+fn is_spelled(text: &[u8], meant: u32) -> bool {
     let end = end_of_host(text);
     let host = text.get(..end).unwrap_or(b"");
     let rest = text.get(end..).unwrap_or(b"");
-    is_host(host) && (rest.is_empty() || is_port(rest))
+    if !is_host(host) || host.iter().any(|byte| byte.is_ascii_uppercase()) {
+        return false;
+    }
+    if rest.is_empty() {
+        return true;
+    }
+    match port_of(rest) {
+        Some(port) => port != meant,
+        None => false,
+    }
 }
 
 /// Where the host ends that the text begins with.
@@ -57,10 +77,11 @@ fn is_of_name(byte: u8) -> bool {
     byte.is_ascii_alphanumeric() || byte == b'-' || byte == b'.' || byte == b'_'
 }
 
-/// Whether the text is a colon and the number of a port.
-fn is_port(text: &[u8]) -> bool {
-    match text.strip_prefix(b":") {
-        Some(number) => read_u32(number, LAST_PORT).is_some(),
-        None => false,
+/// The port, from 1, where the text is a colon and its number.
+fn port_of(text: &[u8]) -> Option<u32> {
+    let port = read_u32(text.strip_prefix(b":")?, LAST_PORT)?;
+    if port == 0 {
+        return None;
     }
+    Some(port)
 }

@@ -9,7 +9,8 @@ use arrayvec::ArrayString;
 use itoa::Buffer;
 use warp_host::{HostFault, OpenFault};
 use warp_session::{ServeFault, SessionEnd};
-use warp_world::{ScheduleFault, TraceFault};
+use warp_trace::TraceFault;
+use warp_world::ScheduleFault;
 
 /// The room for a line, in bytes: none is longer.
 pub const LONGEST_LINE: usize = 64;
@@ -38,13 +39,15 @@ pub enum Outcome {
     NotOpen,
     /// More than 64 peers.
     TooManyPeers,
+    /// A word that names a peer is no host with a port.
+    NoPeer,
     /// What is to be allowed as the origin of pages is none.
     NoOrigin,
     /// The program was read and refused, for the reason with this number, 1 to 7.
     Program(u8),
     /// The schedule was read and refused at this line: from 1, or 0 where it is too long.
     Schedule(u64),
-    /// Others may read this file of tokens.
+    /// Others may read or write this file of tokens.
     ShownTokens(TokenFile),
     /// This file of tokens was read and refused at this line, from 1.
     BadTokens(TokenFile, u64),
@@ -90,7 +93,7 @@ pub fn status(outcome: Outcome) -> u8
         Outcome::Done => 0,
         Outcome::Words | Outcome::TooManyLanes => 2,
         Outcome::NoAddress | Outcome::NotOpen | Outcome::TooManyPeers => 2,
-        Outcome::NoOrigin | Outcome::NoAction | Outcome::NoSync => 2,
+        Outcome::NoPeer | Outcome::NoOrigin | Outcome::NoAction | Outcome::NoSync => 2,
         Outcome::Program(_) | Outcome::Schedule(_) => 3,
         Outcome::OtherJournal | Outcome::DamagedJournal(_) | Outcome::RefusedJournal(_) => 3,
         Outcome::NoJournal | Outcome::LostJournal => 4,
@@ -115,6 +118,7 @@ pub fn say(outcome: Outcome) -> ArrayString<LONGEST_LINE>
         Outcome::NoAddress => plain("where to listen is ADDRESS:PORT\n"),
         Outcome::NotOpen => plain("listening there wants --tokens, or --open if that is meant\n"),
         Outcome::TooManyPeers => plain("too many peers\n"),
+        Outcome::NoPeer => plain("--peer is HOST:PORT\n"),
         Outcome::NoOrigin => {
             plain("--allow-origin is http://HOST[:PORT] or https://HOST[:PORT]\n")
         }
@@ -139,14 +143,14 @@ pub fn say(outcome: Outcome) -> ArrayString<LONGEST_LINE>
     }
 }
 
-/// What is said where others may read this file.
+/// What is said where others may read or write this file.
 fn shown_words(which: TokenFile) -> &'static str
     ensures text { result.now ≡ shown_words which }
-    ensures short { length result.now ≤ 40 }
+    ensures short { length result.now ≤ 60 }
 {
     match which {
-        TokenFile::Clients => "others may read the tokens\n",
-        TokenFile::Peers => "others may read the tokens of peers\n",
+        TokenFile::Clients => "others may read or write the tokens\n",
+        TokenFile::Peers => "others may read or write the tokens of peers\n",
     }
 }
 

@@ -11,7 +11,7 @@ use warp_line::Timeline;
 use warp_replica::Replica;
 use warp_run::Warp;
 use warp_tag::{OutOfMemory, Tag};
-use warp_world::{Labels, Printer, Recorder, StepNotes, TraceFault, print_full};
+use warp_trace::{Labels, Printer, Recorder, StepNotes, TraceFault, print_full};
 
 /// A timeline whose steps can be printed.
 pub(crate) trait Stepping: Timeline {

@@ -3,7 +3,7 @@ ghost use Rattle.std.specs.Prelude.{◌≡◌};
 
 use std::marker::Model;
 use warp_session::{Sink, Source, write_all};
-use warp_world::{Printer, Unprinted};
+use warp_trace::{Printer, Unprinted};
 
 /// Standard input and output, or what stands for them.
 #[derive(Drop)]

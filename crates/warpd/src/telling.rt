@@ -14,10 +14,10 @@ pub(crate) fn tell_of_file<X: Eprint>(rt: &X, path: &str, why: &str) {
     let _ = eprintln!(rt; "{path}: {why}");
 }
 
-/// Tells that others may read the file at this path, which has this mode.
+/// Tells that others may read or write the file at this path, which has this mode.
 pub(crate) fn tell_shown<X: Eprint>(rt: &X, path: &str, mode: u32) {
     let bits = mode & 0o7777;
-    let _ = eprintln!(rt; "{path}: others may read it (mode {bits:o}; chmod 600 {path})");
+    let _ = eprintln!(rt; "{path}: others may read or write it (mode {bits:o}; chmod 600 {path})");
 }
 
 /// Tells what is wrong with this line of the file at this path, from 1.

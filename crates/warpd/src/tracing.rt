@@ -16,7 +16,7 @@ use std::alloc::Global;
 use warp_run::Warp;
 use warp_session::{SessionEnd, Sink, Source, session};
 use warp_step::Program;
-use warp_world::{Labels, print_trace};
+use warp_trace::{Labels, print_trace};
 
 /// Reads lines to the end of the source, and then prints the rows of the program's run over the log that they leave.
 pub(crate) fn trace_lines<R: Source, W: Sink>(

@@ -6,7 +6,7 @@ use denote.Param.{param}
 use denote.Param.Send.{param_send, arg_send, shr_send}
 use denote.Param.SendFields.{declared_send, as_row_send}
 use Rattle.std.below.core.proofs.marker.ClosureMark.TheSendSync as mark
-use Rattle.warp_world.proofs.labels.Labels.TheSendSync as labels
+use Rattle.warp_trace.proofs.labels.Labels.TheSendSync as labels
 use Rattle.warp_host.proofs.SentExecutors.{executor_send}
 use Rattle.warp_host.proofs.hosting.start_executor.Goals as goal
 

@@ -4,7 +4,7 @@ use Rattle.warp_host.specs.declared.journal_faults.OpenFault.TheVariants as open
 use Rattle.warpd.proofs.outcome.outcome_of_journal.Goals as goal
 
 pub returns-in-Damaged-clause-keeps : goal.returns-in-Damaged-clause-keeps
-returns-in-Damaged-clause-keeps c = inr (inr (inr (inr (inr (inr (inl (open_fault.Damaged c.in-Damaged.line, refl)))))))
+returns-in-Damaged-clause-keeps c = inr (inr (inr (inr (inr (inr (inr (inl (open_fault.Damaged c.in-Damaged.line, refl))))))))
 
 pub returns-in-Refused-clause-keeps : goal.returns-in-Refused-clause-keeps
-returns-in-Refused-clause-keeps c = inr (inr (inr (inr (inr (inr (inl (open_fault.Refused c.in-Refused.line, refl)))))))
+returns-in-Refused-clause-keeps c = inr (inr (inr (inr (inr (inr (inr (inl (open_fault.Refused c.in-Refused.line, refl))))))))
