@@ -2,12 +2,11 @@
 
 from __future__ import annotations
 
-import re
 from collections.abc import Iterable, Sequence
 from typing import Optional, Union
 
 from . import refused, tree
-from .faults import nearest
+from .faults import nearest, port_of
 from .scope import CONSTANTS, EFFECTS, FUNCTIONS, STATEMENTS, TRIGGERS, Kind, Scope
 from .tree import At
 from .types import INT, Type
@@ -59,18 +58,34 @@ class BodyCheck:
         elif name in refused.TRIGGERS and kind is None:
             self.report.error(place.at, *refused.TRIGGERS[name])
         elif kind is None:
-            self.scope.unknown(name, place.at, kinds)
+            self.taken_as(part, name, self.scope.unknown(name, place.at, kinds))
         elif kind is Kind.VARIABLE:
             self.report.error(place.at, f"`{name}` is a state variable: it is read and assigned without standing here")
         elif kind not in kinds:
             says = {"on": "triggers nothing", "reads": "cannot be read", "writes": "is neither put nor scheduled"}[part]
             self.report.error(place.at, f"`{name}` is {kind.value}: it {says}")
 
+    def taken_as(self, part: str, name: str, near: str) -> None:
+        """Takes a name of the header that is not declared for the one that is near, or where none is for nothing: so
+        that what is told of the body does not go on from a mistake that was told."""
+        known = [it for it in self.scope.kinds if near and port_of(it) == near]
+        self.lists[part] = [each for it in self.lists[part] for each in (known if it == name else [it])]
+
     def header(self, part: str, name: str) -> str:
         """The reaction's header with a name more."""
+        part = part if self.lists["on"] or part != "reads" else "on"
         lists = {**self.lists, part: [*self.lists[part], name]}
-        on, reads, writes = (", ".join(dict.fromkeys(lists[it])) for it in ("on", "reads", "writes"))
-        return f"write `reaction({on}){' ' * bool(reads)}{reads}{' -> ' * bool(writes)}{writes}`"
+        on, reads, writes = (", ".join(self.ports(lists[it])) for it in ("on", "reads", "writes"))
+        return f"write `reaction({on or '..'}){' ' * bool(reads)}{reads}{' -> ' * bool(writes)}{writes}`"
+
+    def ports(self, names: Iterable[str]) -> list[str]:
+        """The names as a header has them: a multiport in the place of all its channels."""
+        names = dict.fromkeys(names)
+        every: dict[str, list[str]] = {}
+        for it in self.scope.kinds:
+            every.setdefault(port_of(it), []).append(it)
+        found = (port_of(it) if all(each in names for each in every.get(port_of(it), [it])) else it for it in names)
+        return list(dict.fromkeys(found))
 
     def is_declared(self, name: str, at: At) -> None:
         if name not in self.lists["on"] + self.lists["reads"]:
@@ -113,8 +128,7 @@ class BodyCheck:
         elif kind is None and name in refused.VALUES:
             self.report.error(at, *refused.VALUES[name])
         elif kind is None:
-            near = nearest(name, [*self.scope.kinds, *self.lets])
-            self.report.error(at, f"`{name}` is not declared here", near)
+            self.scope.unknown(name, at, more=self.lets)
         else:
             self.scope.read.add(name)
         return self.scope.types.get(name, INT)
@@ -199,7 +213,7 @@ class BodyCheck:
             return self.kind_of(it.text), local.type if local else self.scope.types.get(it.text, INT)
         owner = it.owner.text if it.owner else it.name.text
         if it.index or it.owner_index:
-            self.report.error(it.at, *refused.ARRAYS)
+            self.scope.no_array(it, it.at)
             return Kind.TYPE, INT
         kind = self.kind_of(owner)
         if kind is None:
@@ -293,7 +307,9 @@ class BodyCheck:
         """Checks what is put on or scheduled, and gives its type."""
         first = call.parts[0]
         kind = self.scope.kinds.get(first.name) if isinstance(first, tree.Reference) else None
-        if not isinstance(first, tree.Reference):
+        if isinstance(first, tree.Member) and (first.place.index or first.place.owner_index):
+            self.scope.no_array(first.place, first.at)
+        elif not isinstance(first, tree.Reference):
             self.report.error(first.at, f"here stands the name of {wanted.value}")
         elif kind is None:
             self.scope.unknown(first.name, first.at, (wanted,))
@@ -307,5 +323,5 @@ class BodyCheck:
 
 def _without_channel(name: str, named: Iterable[str]) -> str:
     """The multiport of a channel where none of its channels is named, else the name."""
-    port = re.sub(r"\[\d+\]$", "", name)
-    return name if any(re.sub(r"\[\d+\]$", "", it) == port for it in named) else port
+    port = port_of(name)
+    return name if any(port_of(it) == port for it in named) else port

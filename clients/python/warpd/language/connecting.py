@@ -46,6 +46,8 @@ class Net:
     entrances: list[Entrance] = field(default_factory=list)
     exits: list[Exit] = field(default_factory=list)
     taken: dict[Point, At] = field(default_factory=dict)
+    # The places at which something was told: of a multiport or a bank it is told once.
+    told: set[At] = field(default_factory=set)
 
 
 class Connecting:
@@ -84,7 +86,7 @@ class Connecting:
                 first = next((each for each in self.net.exits if each.point == point), None)
                 if first:
                     text = f"`{point}` is an output of the program already"
-                    self.report.error(place.at, text, f"at {self.report.place(first.at)}")
+                    self._tell(place.at, text, f"at {self.report.place(first.at)}")
                 else:
                     self.net.exits.append(Exit(point, place.at))
 
@@ -93,8 +95,14 @@ class Connecting:
         first = self.net.taken.setdefault(point, at)
         if first is not at:
             hint = f"at {self.report.place(first)}; an input has one: declare another input for this one"
-            self.report.error(at, f"`{point}` has a source already", hint)
+            self._tell(at, f"`{point}` has a source already", hint)
         return first is at
+
+    def _tell(self, at: At, text: str, hint: str) -> None:
+        """Tells what is wrong with a port, where nothing was told of another one of the same place."""
+        if at not in self.net.told:
+            self.net.told.add(at)
+            self.report.error(at, text, hint)
 
     def _is_not_put(self, point: Point, at: At) -> bool:
         """Whether no reaction of its own puts on an output; else that is told."""
@@ -103,7 +111,7 @@ class Connecting:
         places = [it.reaction.at for it in self.node.form.reactions if point.name in it.lists["writes"]]
         if places:
             hint = f"the reaction at {self.report.place(places[0])} puts on it"
-            self.report.error(at, f"`{point}` has a source already", hint)
+            self._tell(at, f"`{point}` has a source already", hint)
         return not places
 
     # Connections.
@@ -131,7 +139,7 @@ class Connecting:
         left, right = source.type, target.type
         if left != right:
             hint = "a reaction between them changes it: `y = fixed(x);`, or `y = round(x);`"
-            self.report.error(at, f"`{source}` is `{left}` and `{target}` is `{right}`", hint)
+            self._tell(at, f"`{source}` is `{left}` and `{target}` is `{right}`", hint)
         return left == right
 
     def _sources(self, place: tree.Place) -> Points:

@@ -3,13 +3,15 @@
 from __future__ import annotations
 
 import difflib
+import re
 import unicodedata
-from collections.abc import Iterable
+from collections.abc import Iterable, Mapping, Sequence
 from dataclasses import dataclass
+from typing import Optional
 
 from .tree import At
 
-MOST_SHOWN = 50
+MOST_SHOWN, MOST_LISTED = 50, 3
 # Controls, marks of direction and the like, halves of characters, and ends of lines and paragraphs.
 OBEYED = {"Cc", "Cf", "Cs", "Zl", "Zp"}
 
@@ -29,6 +31,8 @@ class Report:
         self.file, self.lines = file, text.split("\n")
         self.faults: list[Fault] = []
         self.told: set[Fault] = set()
+        # Of each mistake that is told once: the places where it shows, with what is told there.
+        self.alike: dict[str, dict[At, tuple[str, str]]] = {}
         # How often an error was told, one that is told again counted too.
         self.errors = 0
         # Each file, and how many lines stand before its first: those of a further file are counted on.
@@ -53,6 +57,25 @@ class Report:
     def error(self, at: At, text: str, hint: str = "") -> None:
         self.errors += 1
         self._add(Fault(at, "error", text, hint))
+
+    def error_once(self, at: At, mistake: str, text: str, hint: str) -> None:
+        """An error that one mistake is the cause of at several places: it is told at the first of them, with how many
+        more there are. `text` is what is told where it is the first."""
+        places = self.alike.setdefault(mistake, {})
+        before = _of_all(places)
+        places.setdefault(at, (text, hint))
+        self.errors += 1
+        now = _of_all(places)
+        if before in self.faults:
+            self.faults[self.faults.index(before)] = now
+        else:
+            self.faults.append(now)
+
+    def forget(self, count: int) -> None:
+        """Forgets what was told behind the first `count` faults."""
+        del self.faults[count:]
+        self.told = set(self.faults)
+        self.alike.clear()
 
     def warning(self, at: At, text: str, hint: str = "") -> None:
         self._add(Fault(at, "warning", text, hint))
@@ -81,15 +104,48 @@ class Report:
         return text + (f"{' ' * len(number)} = hint: {plain(fault.hint)}\n" if fault.hint else "")
 
 
+def _of_all(places: Mapping[At, tuple[str, str]]) -> Optional[Fault]:
+    """The one fault of a mistake that shows at these places."""
+    if not places:
+        return None
+    at, more = min(places), len(places) - 1
+    text, hint = places[at]
+    again = f"; so it is at {more} more place{'s' * (more > 1)}" if more else ""
+    return Fault(at, "error", text, hint + again)
+
+
 def plain(text: str) -> str:
     """The text with another mark for each character that a terminal obeys in the place of showing it."""
     return "".join("\N{REPLACEMENT CHARACTER}" if it != "\t" and unicodedata.category(it) in OBEYED else it for it in text)
 
 
+def meant(name: str, names: Iterable[str]) -> str:
+    """The name that is nearest to this one; empty where none is near."""
+    found = difflib.get_close_matches(name, sorted(names), 1, 0.6)
+    return found[0] if found else ""
+
+
 def nearest(name: str, names: Iterable[str]) -> str:
     """A hint that names what was meant, where something is near."""
-    found = difflib.get_close_matches(name, sorted(names), 1, 0.6)
-    return f"did you mean `{found[0]}`?" if found else ""
+    found = meant(name, names)
+    return f"did you mean `{found}`?" if found else ""
+
+
+def port_of(name: str) -> str:
+    """The port, as it was declared, that has this channel: `y` of `y[2]`."""
+    return re.sub(r"\[\d+\]$", "", name)
+
+
+def channels_told(names: Sequence[str], every: int) -> tuple[str, str]:
+    """How some of `every` ports of one place are told of: a name for a message, with a hint that tells of the others.
+    All channels of one multiport have its name."""
+    first, *rest = names
+    if rest and len(names) == every and len(set(map(port_of, names))) == 1:
+        return port_of(first), ""
+    if not rest:
+        return first, ""
+    others = listed(f"`{it}`" for it in rest) if len(rest) <= MOST_LISTED else f"{len(rest)} more of {every}"
+    return first, f"so it is with {others}"
 
 
 def listed(words: Iterable[str], last: str = "and") -> str:

@@ -7,7 +7,7 @@ from typing import NamedTuple, Optional
 
 from . import tree
 from .connecting import Entrance, Exit, Net
-from .faults import Report
+from .faults import Report, channels_told
 from .hierarchy import Node
 from .model import Instance, Link, Owned, Port, Program, Shown, joined
 from .places import Point
@@ -37,6 +37,9 @@ class Flattening:
         self.shown: set[Port] = set()
         self.root, self.net, self.program, self.report = root, net, program, report
         self.entered: dict[Point, list[tuple[tuple[int, ...], Target]]] = {it.point: [] for it in net.entrances}
+        # The program's ports that lead nowhere, and to which nothing comes.
+        self.nowhere: list[Entrance] = []
+        self.empty: list[Exit] = []
 
     def write(self) -> None:
         self._instances()
@@ -48,6 +51,7 @@ class Flattening:
         for it in self.net.entrances:
             self._entrance(it)
         self.program.outputs += exits
+        self._warn()
 
     def _from(self, way: Way, target: Target) -> None:
         """Links a port with what comes to it; what an origin sends is linked later, where all its targets are known."""
@@ -150,7 +154,7 @@ class Flattening:
             relay = self._relay(self._relay_path(it.point), name, output, it.at)
             port = Port(relay, name)
             if not targets:
-                self.report.warning(it.at, f"`{it.point}` leads nowhere")
+                self.nowhere.append(it)
             for delays, target in targets:
                 self._link(Port(relay, output), delays, target)
         self.program.inputs.append(Owned(it.origin, port, it.at))
@@ -159,8 +163,7 @@ class Flattening:
         way = self._way(it.point)
         port = self._port(way.source, False)
         if not port and way.source not in self.entered:
-            hint = "a reaction puts on an output, or a connection leads to it"
-            self.report.warning(it.at, f"nothing comes to `{it.point}`", hint)
+            self.empty.append(it)
         if port and not way.delays and port not in self.shown:
             self.shown.add(port)
             return Shown(port, it.at)
@@ -169,6 +172,19 @@ class Flattening:
         relay = self._relay(self._relay_path(it.point), inner, name, it.at)
         self._from(way, Target(Port(relay, inner), it.at))
         return Shown(Port(relay, name), it.at)
+
+
+    def _warn(self) -> None:
+        """Warns of what the program's ports lack: once at each place of the text."""
+        puts = "a reaction puts on an output, or a connection leads to it"
+        for lacking, ports, text, hint in (
+            (self.nowhere, self.net.entrances, "`{}` leads nowhere", ""),
+            (self.empty, self.net.exits, "nothing comes to `{}`", puts),
+        ):
+            for at in dict.fromkeys(it.at for it in lacking):
+                names = [str(it.point) for it in lacking if it.at == at]
+                name, more = channels_told(names, sum(it.at == at for it in ports))
+                self.report.warning(at, text.format(name), "; ".join(it for it in (hint, more) if it))
 
 
 def _place(name: str, at: At) -> tree.Place:

@@ -8,7 +8,7 @@ from enum import Enum
 from typing import TYPE_CHECKING, Optional
 
 from . import refused, tree
-from .faults import Report, listed, nearest
+from .faults import Report, listed, meant, nearest, port_of
 from .tree import At
 from .types import FIXED, INT, NAMED, Struct, Type, common, is_fixed, number_of
 from .values import MOST
@@ -121,9 +121,24 @@ class Scope:
             f"a name has at most {LONGEST_NAME} letters, digits and `_`, a letter first",
         )
 
-    def unknown(self, name: str, at: At, kinds: Optional[Sequence[Kind]] = None) -> None:
-        near = nearest(name, (it for it, kind in self.kinds.items() if kinds is None or kind in kinds))
-        self.report.error(at, f"`{name}` is not declared here", near)
+    def unknown(self, name: str, at: At, kinds: Optional[Sequence[Kind]] = None, more: Iterable[str] = ()) -> str:
+        """Tells a name that nothing has, with the one that is nearest of what is of these kinds and of `more`, which it
+        gives; empty where none is near."""
+        known = {port_of(it) for it, kind in self.kinds.items() if kinds is None or kind in kinds}
+        near = meant(name, {*known, *more})
+        self.report.error(at, f"`{name}` is not declared here", f"did you mean `{near}`?" if near else "")
+        return near
+
+    def no_array(self, place: tree.Place, at: At) -> None:
+        """Tells a place with an index that is no channel: with the multiport or the bank that is near, where nothing
+        has this name, or else that there are no arrays."""
+        name = place.owner or place.name
+        wide = {it.split("[")[0] for it in self.kinds if "[" in it}
+        near = "" if name.text in self.kinds else nearest(name.text, wide)
+        if near:
+            self.report.error(name.at, f"`{name.text}` is not declared here", near)
+        else:
+            self.report.error(at, *refused.ARRAYS)
 
     def type(self, it: Optional[tree.Name], is_number: bool = True) -> Type:
         """The type of this name, `int` where none stands. What is no type is told, and a struct where none can stand."""
@@ -210,9 +225,8 @@ class Scope:
 
     def duration(self, it: tree.Duration) -> None:
         if self.unit is None:
-            self.report.error(
-                it.at, f"`{it.text}`: the program states no unit of time", "write `target warpd { unit: 1 ms, .. }`"
-            )
+            text, hint = f"`{it.text}`: the program states no unit of time", "write `target warpd { unit: 1 ms, .. }`"
+            self.report.error_once(it.at, "no unit", text, hint)
         elif it.nanoseconds % self.unit:
             self.report.error(
                 it.at,
@@ -238,7 +252,7 @@ class Scope:
         """Checks `p.x`: of a struct."""
         place = it.place
         if place.index or place.owner_index:
-            self.report.error(it.at, *refused.ARRAYS)
+            self.no_array(place, it.at)
         elif body is None:
             self.report.error(it.at, f"`{place}`: here stands what is constant", "parameters and `const` are")
         else:
@@ -313,7 +327,9 @@ class Scope:
 
     def present(self, it: tree.Call, body: Optional[BodyCheck]) -> None:
         (part,) = it.parts
-        if not isinstance(part, tree.Reference):
+        if isinstance(part, tree.Member) and (part.place.index or part.place.owner_index):
+            self.no_array(part.place, part.at)
+        elif not isinstance(part, tree.Reference):
             self.report.error(
                 part.at,
                 "`present` asks for a name",

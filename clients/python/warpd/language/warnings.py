@@ -2,13 +2,13 @@
 
 from __future__ import annotations
 
-from collections.abc import Callable
+from collections.abc import Callable, Sequence
 
-from .faults import Report, listed
+from .faults import Report, channels_told, listed, port_of
 from .model import Class, Instance, Port, Program
 from .pending import warn_of_lost
 from .scope import Kind
-from .tree import At, State
+from .tree import At, Name, State
 
 
 def warn(program: Program, report: Report) -> None:
@@ -41,11 +41,8 @@ class ClassWarnings:
             if state.name.text not in self.one.scope.read:
                 text = f"`{state.name.text}` is never read by a reaction"
                 self.report.warning(state.name.at, text, "it can be asked for from outside by its name")
-        for name in self.one.ports(False):
-            self._each(
-                lambda it, name=name: Port(it.name, it.of.file_name(name.text)) not in self.used, name.at,
-                f"`{name.text}` leads nowhere", lambda it, name=name: f"`{it.title}.{name.text}` leads nowhere",
-            )
+        for names in self._multiports():
+            self._outputs(names)
         for number, check in enumerate(self.one.reactions):
             at = check.reaction.at
             never = "nothing comes to what triggers it"
@@ -54,14 +51,37 @@ class ClassWarnings:
                 lambda it, at=at: f"the reaction at {self.report.place(at)} never runs in `{it.title}`: {never}",
             )
 
-    def _each(self, holds: Callable[[Instance], bool], at: At, text: str, told: Callable[[Instance], str]) -> None:
+    def _multiports(self) -> list[list[Name]]:
+        """The outputs, those of one multiport together."""
+        found: dict[tuple[str, At], list[Name]] = {}
+        for it in self.one.ports(False):
+            found.setdefault((port_of(it.text), it.at), []).append(it)
+        return list(found.values())
+
+    def _outputs(self, names: Sequence[Name]) -> None:
+        """Warns of an output that leads nowhere: of those of its channels that do, where it is a multiport."""
+        def unused(it: Instance) -> tuple[str, ...]:
+            return tuple(each.text for each in names if Port(it.name, it.of.file_name(each.text)) not in self.used)
+
+        for some in dict.fromkeys(map(unused, self.instances)):
+            if some:
+                told, hint = channels_told(some, len(names))
+                self._each(
+                    lambda it, some=some: unused(it) == some, names[0].at, f"`{told}` leads nowhere",
+                    lambda it, told=told: f"`{it.title}.{told}` leads nowhere", hint,
+                )
+
+    def _each(
+        self, holds: Callable[[Instance], bool], at: At, text: str, told: Callable[[Instance], str], hint: str = ""
+    ) -> None:
         found = [it for it in self.instances if holds(it)]
         if len(found) == len(self.instances):
-            self.report.warning(at, text)
+            self.report.warning(at, text, hint)
         else:
             banks = {it.at: [each for each in found if each.at == it.at] for it in found}
             for place, (first, *rest) in banks.items():
-                self.report.warning(place, told(first), f"so it is with {len(rest)} more of its bank" if rest else "")
+                more = f"so it is with {len(rest)} more of its bank" if rest else ""
+                self.report.warning(place, told(first), "; ".join(it for it in (hint, more) if it))
 
     def _runs(self, it: Instance, number: int) -> bool:
         return any(self._comes(it, name) for name in it.of.reactions[number].lists["on"])
