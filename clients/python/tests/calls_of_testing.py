@@ -2,11 +2,19 @@
 door.lf and stand-ins for warpd, under unittest and pytest."""
 
 import unittest
+from pathlib import Path
 
 import warpd.testing
 
+GARDEN = """target warpd { stop: 9 }
+reactor Bed { state water: int = 0; input[2] pour: int; reaction(pour) {= water += pour[0]; =} }
+reactor Garden { bed = new Bed(); input pour: int; pour -> bed.pour[0]; }
+main reactor { bed = new[2] Bed(); garden = new[2] Garden(); @origin(0) input bed.pour, garden.pour; }
+"""
 door = warpd.testing.program("door.lf", warpd="PROGRAM")
 late = warpd.testing.program("door.lf", warpd="./late")
+Path("garden.lf").write_text(GARDEN)
+garden = warpd.testing.program("garden.lf", warpd="PROGRAM")
 
 
 class Door(unittest.TestCase):
@@ -56,6 +64,20 @@ class Door(unittest.TestCase):
             case.outputs("door.open")
         with self.assertRaisesRegex(ValueError, "from 0 to 60"):
             case.event(time=61, input="door.push")
+
+    def test_names_are_those_of_the_text(self):
+        case = garden.case()
+        case.event(time=3, input="bed[1].pour[0]", value=2)
+        case.event(time=4, input="garden_1.pour")
+        case.expect_vars({"bed[1].water": 2, "garden[1].bed.water": 1, "bed_0.water": 0})
+        self.assertEqual(list(case.vars), ["bed[0].water", "bed[1].water", "garden[0].bed.water", "garden[1].bed.water"])
+        self.assertEqual([case.vars[it] for it in ("bed[1].water", "bed_1.water", "garden_1_bed.water")], [2, 2, 1])
+        with self.fails("bed[1].water == 3   | bed[1].water is 2", "behind\n      bed[1].pour[0] = 2 at 3;"):
+            case.expect_vars({"bed_1.water": 3})
+        with self.assertRaisesRegex(KeyError, r"no variable is called `bed\[2\].water`: there are bed\[0\].water, "):
+            case.vars["bed[2].water"]
+        with self.assertRaisesRegex(KeyError, r"no input is called `bed.poor`: there are bed\[0\].pour\[0\], "):
+            case.event(time=3, input="bed.poor")
 
     def test_draws(self):
         @door.drawn("0 to 10 of door.push = 1 to 9, withdraw door.push at 0 to 60")

@@ -135,10 +135,23 @@ class Program:
         found = [each for it in (block.steps if block else ()) for each in Reader(self.subject, report).steps(it)]
         if len(report.faults) > faults or not found:
             told = "".join(report.shown(it) for it in report.faults[faults:])
-            del report.faults[faults:]
-            report.told.clear()
+            report.forget(faults)
             raise ValueError(f"{text}\n{told}")
         return found[0]
+
+
+class Variables(dict):
+    """Values by the names of variables; each may be asked for by any spelling that a test takes."""
+
+    def __init__(self, subject, values: Iterable[tuple[str, int]]):
+        super().__init__(values)
+        self._subject = subject
+
+    def __missing__(self, name: str) -> int:
+        text = self._subject.spelled(self._subject.name_of(name))
+        if text not in self:
+            raise KeyError(f"no variable is called `{name}`: there are {', '.join(self) or 'none'}")
+        return self[text]
 
 
 class Case:
@@ -171,9 +184,11 @@ class Case:
         return self._number(name, self.program.subject.inputs, "input")
 
     def _number(self, name: str, numbers: Mapping[str, int], what: str) -> int:
-        found = self.program.subject.name_of(name)
+        subject = self.program.subject
+        found = subject.name_of(name)
         if found not in numbers:
-            raise KeyError(f"no {what} is called `{name}`: there are {', '.join(numbers) or 'none'}")
+            names = ", ".join(map(subject.spelled, numbers)) or "none"
+            raise KeyError(f"no {what} is called `{name}`: there are {names}")
         return numbers[found]
 
     def _tag(self, given: Tags) -> Tag:
@@ -191,8 +206,9 @@ class Case:
 
     @property
     def vars(self) -> dict[str, int]:
-        """All variables behind what came, by their names."""
-        return dict(zip(self.program.subject.variables, self.answers.variables))
+        """All variables behind what came, by their names as the text spells them: `bed[3].water`."""
+        subject = self.program.subject
+        return Variables(subject, zip(map(subject.spelled, subject.variables), self.answers.variables))
 
     def outputs(self, output: str) -> list[tuple[Tag, int]]:
         """What an output puts: each tag with the value."""
@@ -216,7 +232,9 @@ class Case:
         """That these variables have these values."""
         if not values:
             raise ValueError("no variable is named")
-        self.expect(" && ".join(f"{name} == {value}" for name, value in values.items()), time, micro)
+        subject = self.program.subject
+        names = {name: subject.spelled(subject.name_of(name)) for name in values}
+        self.expect(" && ".join(f"{names[name]} == {value}" for name, value in values.items()), time, micro)
 
     def expect_outputs(self, output: str, puts: Iterable[tuple[Tags, int]]) -> None:
         """That this is all that an output puts: each time, or time and microstep, with the value."""

@@ -2,7 +2,7 @@
 
 from __future__ import annotations
 
-from collections.abc import Sequence
+from collections.abc import Collection, Sequence
 from typing import Optional
 
 from . import refused, tree
@@ -119,7 +119,7 @@ class Parser:
         foreign = _foreign(words, number, table)
         if foreign:
             self.report.error(foreign[0].at, *foreign[1])
-        elif in_body and _lacks_semicolon(words, stopped) and not _misspelt(words, stopped, table):
+        elif in_body and _lacks_semicolon(words, stopped, table) and not _misspelt(words, stopped, table):
             self.report.error(before.end, "`;` is missing here")
             return [*words[:number], Word("SEMICOLON", ";", before.line, before.column), *words[number:]]
         elif not in_body and word.kind in ("REACTOR", "MAIN") and _is_in_reactor(words, stopped):
@@ -138,7 +138,7 @@ class Parser:
 
     def _unexpected(self, words: Sequence[Word], stopped: Stopped, table: dict) -> None:
         word, accepted = words[stopped.number], stopped.accepted
-        shown = [WORDS[it] for it in WORDS if it in accepted]
+        shown = [WORDS[it] for it in _telling(accepted, table) if it in WORDS]
         hint = f"{listed(shown, 'or')} could stand here" if 0 < len(shown) <= 4 else ""
         misspelt = _misspelt(words, stopped, table)
         if misspelt:
@@ -148,6 +148,9 @@ class Parser:
             self.report.error(word.at._replace(width=1), text, hint)
         elif word.kind == "EQUALS" and "EQUALITY" in accepted:
             self.report.error(word.at, "`=` assigns", "`==` compares")
+        elif table is refused.TEST and word.kind in ("EQUALITY", "ORDER") and "EQUALS" in accepted:
+            hint = "`expect` stands before a comparison; an event is written with `=`"
+            self.report.error(word.at, f"`{word}` compares", hint)
         elif _is_word(word) and "NAME" in accepted and word.line == words[stopped.number - 1].line:
             text = f"`{word}` is a word of the language, and no name"
             self.report.error(word.at, text, f"between backquotes it is one: `` `{word}` ``")
@@ -158,6 +161,12 @@ class Parser:
 def _is_in_reactor(words: Sequence[Word], stopped: Stopped) -> bool:
     """Whether a reactor is open where the words stop."""
     return "RBRACE" in stopped.accepted and any(it.kind == "REACTOR" for it in words[:stopped.number])
+
+
+def _telling(accepted: Collection[str], table: dict) -> list[str]:
+    """Of what could stand at a place what is worth telling: in a test its words and `;`, where one of them could."""
+    ours = {*KEYWORDS.values(), "SEMICOLON"} & set(accepted) if table is refused.TEST else ()
+    return [it for it in WORDS if it in (ours or accepted)]
 
 
 def _is_word(word: Word) -> bool:
@@ -189,20 +198,29 @@ def _misspelt(words: Sequence[Word], stopped: Stopped, table: dict) -> Optional[
     number = stopped.number
     first = words[_start(words, number)]
     if table is refused.TEST:
-        if words[number].kind != "NAME":
-            return None
-        near = nearest(words[number].text, [it for it, kind in KEYWORDS.items() if kind in stopped.accepted])
-        if near:
-            return words[number], near
-        near = nearest(first.text, [it for it, kind in KEYWORDS.items() if kind in BEGINS])
-        return (first, near) if near and words[number] is not first else None
+        return _misspelt_in_test(words, stopped, first)
     if table is not refused.STRUCTURE or first.kind != "NAME" or words[number].kind == "EQUALS":
         return None
     near = nearest(first.text, refused.MEMBERS)
     return (first, near) if near else None
 
 
-def _lacks_semicolon(words: Sequence[Word], stopped: Stopped) -> bool:
+def _misspelt_in_test(words: Sequence[Word], stopped: Stopped, first: Word) -> Optional[tuple[Word, str]]:
+    """Where a test stops: the word there, `always` before it, or the first one of the statement."""
+    number, word = stopped.number, words[stopped.number]
+    before = words[max(number - 1, 0)]
+    is_always = before.kind == "NAME" and words[max(number - 2, 0)].kind == "EXPECT"
+    for it, kinds in ((word, stopped.accepted), (before, {"ALWAYS"} if is_always else ()), (first, BEGINS)):
+        near = nearest(it.text, [text for text, kind in KEYWORDS.items() if kind in kinds])
+        if near and it.kind == word.kind == "NAME":
+            return it, near
+    return None
+
+
+def _lacks_semicolon(words: Sequence[Word], stopped: Stopped, table: dict) -> bool:
+    """Whether the word where it stopped begins a statement, and the one before lacks its end."""
     before, word = words[max(stopped.number - 1, 0)], words[stopped.number]
     begins_anew = before.kind not in ENDS and word.kind in {"NAME", "RBRACE", "$END"} | BEGINS
+    if table is refused.TEST and word.kind == "NAME" and word.line == before.line:
+        begins_anew &= words[stopped.number + 1].kind == "EQUALS"
     return "SEMICOLON" in stopped.accepted and begins_anew and stopped.number > 0

@@ -73,6 +73,8 @@ class Scope:
         # Of a state variable that is a struct: the variables of its fields.
         self.fields: dict[str, dict[str, str]] = {}
         self.is_reactor = False
+        # How names are told of that the text spells otherwise.
+        self.spellings: dict[str, str] = {}
 
     def with_constants(self, names: Iterable[str]) -> Scope:
         """A scope with these constants more."""
@@ -124,7 +126,8 @@ class Scope:
     def unknown(self, name: str, at: At, kinds: Optional[Sequence[Kind]] = None, more: Iterable[str] = ()) -> str:
         """Tells a name that nothing has, with the one that is nearest of what is of these kinds and of `more`, which it
         gives; empty where none is near."""
-        known = {port_of(it) for it, kind in self.kinds.items() if kinds is None or kind in kinds}
+        names = (it for it, kind in self.kinds.items() if kinds is None or kind in kinds)
+        known = {port_of(self.spellings.get(it, it)) for it in names}
         near = meant(name, {*known, *more})
         self.report.error(at, f"`{name}` is not declared here", f"did you mean `{near}`?" if near else "")
         return near

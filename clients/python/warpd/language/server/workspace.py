@@ -16,7 +16,6 @@ from ..parsing import Parser
 from ..sources import read_text
 from ..testing.reading import Reader
 from ..testing.subject import Subject
-from ..tree import File
 from .documents import Document, Positions, plain
 from .names import Names
 from .resolving import TESTS, Program
@@ -131,7 +130,7 @@ class Workspace:
 
         program, report, file = read(text, path.name, path.parent, reader)
         if program and file and not report.errors:
-            _judge_tests(program, file, file.tests, report)
+            _judge_tests(program, file.tests, report)
         found.take(report, path.parent)
         names = self.names(path)
         if names and not names.main:
@@ -150,7 +149,7 @@ class Workspace:
         if program and file and not report.errors:
             before = report.add(path.name, found.texts[path])
             beside = Parser(found.texts[path], report, before).file()
-            _judge_tests(program, file, beside.tests if beside else (), report)
+            _judge_tests(program, beside.tests if beside else (), report)
             found.take(report, path.parent)
             found.faults = {path: found.faults.get(path, [])}
         self.found[path] = found
@@ -169,9 +168,9 @@ class Workspace:
         self.tables.pop(path, None)
 
 
-def _judge_tests(program: Compiled, file: File, tests: Sequence[Word], report: Report) -> None:
-    """Tells what is wrong with tests of a program, whose text is this file."""
-    reader = Reader(Subject(program, report, file), report) if tests else None
+def _judge_tests(program: Compiled, tests: Sequence[Word], report: Report) -> None:
+    """Tells what is wrong with tests of a program."""
+    reader = Reader(Subject(program, report), report) if tests else None
     for it in tests:
         reader.test(it)
 

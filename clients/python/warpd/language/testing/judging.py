@@ -105,7 +105,7 @@ class Judge:
         known = {"lost": str(lost)}
         known.update((name, self.subject.shown(name, value)) for name, value in zip(self.subject.variables, values))
         named = dict.fromkeys(each.name for each in references(it.value))
-        got = ", ".join(f"{name} is {known[name]}" for name in named if name in known)
+        got = ", ".join(f"{self.subject.spelled(name)} is {known[name]}" for name in named if name in known)
         at = it.value.at
         return Failure(at, "", [expected(it, self.subject)], [(got or "it is not so") + when])
 
@@ -123,7 +123,7 @@ class Judge:
             return None
         output = list(self.subject.outputs)[it.output]
         wanted, found = ([puts([each], output, self.subject) for each in its] for its in (it.puts, got))
-        head = f"{output} puts"
+        head = f"{self.subject.spelled(output)} puts"
         return Failure(it.at, "", [head, *(wanted or ["nothing"])], [head, *(found or ["nothing"])])
 
     # In every order.
@@ -162,9 +162,9 @@ class Judge:
 
     def _told(self, arrival: Arrival, wanted: Answers, got: Answers, name: str, at: At) -> Failure:
         """How two answers differ."""
-        shown = self.subject.shown
+        shown, spelled = self.subject.shown, self.subject.spelled
         lines = [
-            (f"{name} == {shown(name, one)}", f"{name} is {shown(name, other)}")
+            (f"{spelled(name)} == {shown(name, one)}", f"{spelled(name)} is {shown(name, other)}")
             for name, one, other in zip(self.subject.variables, wanted.variables, got.variables) if one != other
         ]
         for output, number in self.subject.outputs.items():
@@ -173,7 +173,7 @@ class Judge:
                 for its in (wanted, got)
             )
             if one != other:
-                lines.append((f"{output} puts {one}", f"{output} puts {other}"))
+                lines.append((f"{spelled(output)} puts {one}", f"{spelled(output)} puts {other}"))
         if wanted.lost != got.lost:
             lines.append((f"lost == {wanted.lost}", f"lost is {got.lost}"))
         lines = lines[:MOST_TOLD]

@@ -35,7 +35,7 @@ def read(text: str, file: str, folder: Optional[Path] = None, more: Sequence[tup
         words += _beside(name, other, report)
     if program is None:
         return Reading(None, [], report)
-    subject = Subject(program, report, its)
+    subject = Subject(program, report)
     reader, tests = Reader(subject, report), []
     for word in words:
         tests += reader.test(word)
@@ -198,8 +198,9 @@ class Reader:
                 (self.subject.inputs, "an input", "a test expects something of variables and outputs"),
             ):
                 if each.name in numbers and each.name not in self.subject.variables:
-                    text = f"`{each.name}` is {what}: it has no value that stays"
-                    self.report.error(each.at, text, hint.format(each.name))
+                    name = self.subject.spelled(each.name)
+                    text = f"`{name}` is {what}: it has no value that stays"
+                    self.report.error(each.at, text, hint.format(name))
                     return Expected(it.value, None, False, it.at)
         self.subject.scope.constant(it.value)
         tag = None

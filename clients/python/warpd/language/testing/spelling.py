@@ -7,7 +7,6 @@ from typing import Union
 
 from ... import Event, Tag, Withdraw
 from .. import tree
-from ..writing import name
 from .plan import ASK, Arrival, Expected, Puts
 from .subject import Subject, fixed
 
@@ -17,27 +16,30 @@ BINDS = {
 UNARY, ATOM = 7, 8
 
 
-def expression(it: tree.Expression, around: int = 0) -> str:
+def expression(it: tree.Expression, subject: Subject, around: int = 0) -> str:
     """An expression as it may be written, in brackets where what is around it binds tighter."""
-    text, binds = _bound(it)
+    text, binds = _bound(it, subject)
     return f"({text})" if binds < around else text
 
 
-def _bound(it: tree.Expression) -> tuple[str, int]:
+def _bound(it: tree.Expression, subject: Subject) -> tuple[str, int]:
+    def part(each: tree.Expression, around: int = 0) -> str:
+        return expression(each, subject, around)
+
     match it:
         case tree.Number() | tree.Duration():
             return it.text, ATOM
         case tree.Reference():
-            return ".".join(map(name, it.name.split("."))), ATOM
+            return subject.spelled(it.name), ATOM
         case tree.Unary():
-            return f"{it.operator}{expression(it.part, UNARY)}", UNARY
+            return f"{it.operator}{part(it.part, UNARY)}", UNARY
         case tree.Binary():
             binds = BINDS[it.operator]
-            return f"{expression(it.left, binds)} {it.operator} {expression(it.right, binds + 1)}", binds
+            return f"{part(it.left, binds)} {it.operator} {part(it.right, binds + 1)}", binds
         case tree.Choice():
-            return f"{expression(it.test, 1)} ? {expression(it.yes)} : {expression(it.no)}", 0
+            return f"{part(it.test, 1)} ? {part(it.yes)} : {part(it.no)}", 0
         case tree.Call():
-            return f"{it.name.text}({', '.join(map(expression, it.parts))})", ATOM
+            return f"{it.name.text}({', '.join(map(part, it.parts))})", ATOM
     return str(it.place), ATOM
 
 
@@ -54,8 +56,8 @@ def expected(it: Union[Expected, Puts], subject: Subject) -> str:
     """What stands behind the word `expect`."""
     if isinstance(it, Puts):
         output = list(subject.outputs)[it.output]
-        return f"{output} puts {puts(it.puts, output, subject)}"
-    text = expression(it.value)
+        return f"{subject.spelled(output)} puts {puts(it.puts, output, subject)}"
+    text = expression(it.value, subject)
     if it.is_always:
         return f"always {text}"
     return text if it.tag is None else f"{text} at {moment(*it.tag, is_exact=True)}"
@@ -70,9 +72,11 @@ def arrived(arrival: Arrival, subject: Subject) -> list[str]:
             lines.append("ask;")
         elif isinstance(it.record, Event):
             input = inputs[it.record.input]
-            lines.append(f"{input} = {subject.shown(input, it.record.value)} at {moment(*it.record.tag)};")
+            value = subject.shown(input, it.record.value)
+            lines.append(f"{subject.spelled(input)} = {value} at {moment(*it.record.tag)};")
         elif isinstance(it.record, Withdraw):
-            lines.append(f"withdraw {inputs[subject.owners.index(it.record.origin)]} at {moment(*it.record.tag)};")
+            input = inputs[subject.owners.index(it.record.origin)]
+            lines.append(f"withdraw {subject.spelled(input)} at {moment(*it.record.tag)};")
     return lines
 
 

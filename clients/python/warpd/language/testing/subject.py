@@ -10,18 +10,21 @@ from ..faults import Report, nearest
 from ..lowering import Maker
 from ..model import Program
 from ..scope import Scope
+from ..tables import grammar
 from ..types import FIXED, INT, ONE, Type
 from ..values import wrapped
+from .words import KEYWORDS
 
 LOST = "lost"
 MICROS = {1: 15, 2: 255, 3: 255}
 
 
 class Subject:
-    """`variables`, `inputs` and `outputs` have the numbers of names, `owners` for each input its origin, `types` the
-    type of each name, and `starts` the values of variables before the first tag."""
+    """`variables`, `inputs` and `outputs` have the numbers of names, which are those of the program file; `owners` for
+    each input its origin, `types` the type of each name, `starts` the values of variables before the first tag, and
+    `spellings` how the text spells each name."""
 
-    def __init__(self, program: Program, report: Report, file: tree.File):
+    def __init__(self, program: Program, report: Report):
         self.program, self.report, self.file = program, report, program.file()
         names = program.names()
         self.variables = {name: number for number, name in enumerate(names["vars"])}
@@ -29,35 +32,63 @@ class Subject:
         self.owners = [origin for origin, _ in names["inputs"]]
         self.outputs = {name: number for number, name in enumerate(names["outputs"])}
         self.starts = [start for it in self.file["reactors"] for _, start in it.get("vars", ())]
-        main = next(it for it in file.reactors if it.is_main)
-        self.aliases = {**_aliases(main, True, self.inputs), **_aliases(main, False, self.outputs)}
         self.every = {*self.variables, *self.inputs, *self.outputs}
-        self.types = {name: self._type(name) for name in self.every}
+        points = [it.point for it in (*program.net.entrances, *program.net.exits)]
+        ports = dict(zip([*self.inputs, *self.outputs], points))
+        self.types = {name: self._type(name) for name in self.variables}
+        self.types.update({name: FIXED if it.type == FIXED else INT for name, it in ports.items()})
+        self.spellings = {**self._spellings(), **{name: _quoted(str(it)) for name, it in ports.items()}}
+        self.aliases = {text.strip("`"): name for name, text in self.spellings.items()}
+        own = f"{self._main()}."
+        for text, name in [*self.aliases.items()]:
+            self.aliases.setdefault(text.removeprefix(own), name)
+        for text, name in [*self.aliases.items()]:
+            self.aliases.setdefault(_plain(text), name)
         self.stop, self.last_micro = program.stop, MICROS[program.version]
         self.scope = self._scope()
 
     def _type(self, name: str) -> Type:
         instance, its = name.split(".")
-        of = self.program.instances[instance].of
-        spelled = {flat: port for port, flat in of.flat.items()}.get(its, its)
-        found = of.scope.types.get(re.split(r"[.[]", spelled)[0], INT)
+        found = self.program.instances[instance].of.scope.types.get(its, INT)
         return found if found == FIXED else INT
+
+    def _spellings(self) -> dict[str, str]:
+        """How the text spells each variable: `bed[3].ball.height` the one that a program file calls
+        `bed_3.ball_height`."""
+        found = {}
+        for name in self.variables:
+            instance, its = name.split(".")
+            it = self.program.instances[instance]
+            groups = it.of.scope.fields.items()
+            fields = {flat: f"{group}.{field}" for group, names in groups for field, flat in names.items()}
+            found[name] = f"{it.title}.{fields.get(its, its)}"
+        return found
+
+    def _main(self) -> str:
+        """What main is told of as, whose variables need not be named with it."""
+        flat = self.program.root.flat
+        return flat.title if flat else ""
+
+    def spelled(self, name: str) -> str:
+        """A name of the program file as the text spells it, so that a test may have it."""
+        return self.spellings.get(name, name)
 
     def _scope(self) -> Scope:
         """In which variables are known as constants are: each test has its values."""
         scope = self.program.scope.with_constants([*self.variables, LOST])
         scope.types.update({name: type for name, type in self.types.items() if name in self.variables})
-        scope.routines = {}
+        scope.routines, scope.spellings = {}, self.spellings
         return scope
 
     def name_of(self, text: str) -> str:
         """What a program file calls a place of the text: `player_0.lives` of `player[0].lives`, `a_b.x` of `a.b.x`,
-        `main.go` of `go`; and what main writes for an input or an output."""
+        `main.go` of `go`; and what it calls an input or an output of the program."""
         if text in self.every or text in self.scope.kinds and "." not in text:
             return text
-        if text in self.aliases:
-            return self.aliases[text]
-        *path, last = re.sub(r"\[(\d+)\]", r"_\1", text).split(".")
+        plain = _plain(text)
+        if text in self.aliases or plain in self.aliases:
+            return self.aliases.get(text) or self.aliases[plain]
+        *path, last = plain.split(".")
         found = [f"{'_'.join(path)}.{last}"] if path else [it for it in self.every if it.split(".")[1] == last]
         found += [f"{'_'.join(path[:-1])}.{path[-1]}_{last}"] if len(path) > 1 else []
         known = [it for it in found if it in self.every]
@@ -70,8 +101,10 @@ class Subject:
         kinds = {"a variable": self.variables, "an input of the program": self.inputs}
         kinds["an output of the program"] = self.outputs
         other = next((kind for kind, its in kinds.items() if name.text in its), "")
-        told = f"`{name.text}` is {other}: here stands {what}" if other else f"the program has no `{name.text}`"
-        hint = nearest(name.text, numbers) or (f"there are {_some(numbers)}" if numbers else f"it has not {what}")
+        text = self.spelled(name.text)
+        told = f"`{text}` is {other}: here stands {what}" if other else f"the program has no `{text}`"
+        names = [self.spelled(it).strip("`") for it in numbers]
+        hint = nearest(text, names) or (f"there are {_some(names)}" if numbers else f"it has not {what}")
         self.report.error(name.at, told, hint)
         return 0
 
@@ -97,19 +130,14 @@ def fixed(value: int) -> str:
     return sign + (text + "0" if text.endswith(".") else text)
 
 
-def _aliases(main: tree.Reactor, is_input: bool, names: Iterable[str]) -> dict[str, str]:
-    """What main writes for an input or an output of the program, where that stands for one port: each with its name."""
-    places = [place for it in main.every(tree.Ports) if it.is_input == is_input for place in it.places]
-    names = list(names)
-    return dict(zip(map(_spelled, places), names)) if len(places) == len(names) else {}
+def _plain(text: str) -> str:
+    """A place with `_3` for `[3]`."""
+    return re.sub(r"\[(\d+)\]", r"_\1", text)
 
 
-def _spelled(it: tree.Place) -> str:
-    parts = [(it.owner, it.owner_index)] * bool(it.owner) + [(it.name, it.index)]
-    return ".".join(
-        name.text + (f"[{index.text}]" if isinstance(index, tree.Number) else "[]" * (index is not None))
-        for name, index in parts
-    )
+def _quoted(text: str) -> str:
+    """A name as a test has it: between backquotes where it is a word of the language, and of tests."""
+    return f"`{text}`" if text in KEYWORDS or text in grammar().kinds else text
 
 
 def _some(names: Iterable[str], most: int = 6) -> str:
