@@ -12,6 +12,13 @@ from typing import Optional
 from . import compiled, read, text_of
 from .files import shown, shown_names
 
+USAGE = """warpd-compile FILE.lf [-o FILE.json]
+       warpd-compile --test FILE.lf [TESTS ..]
+       warpd-compile --format [--check] FILE.lf ..
+       warpd-compile --watch FILE.lf [-o FILE.json]
+       warpd-compile --picture FILE.lf [-o FILE.svg]
+       warpd-compile --back FILE.json [-o FILE.lf]
+       warpd-compile --lsp"""
 NOTES = """Without -o the result goes to standard output. With -o FILE.json the names of its numbers go
 to FILE.names.json beside it, which a client reads. Faults and warnings go to standard error. The status is 1
 where there is a fault, 2 where the command line is wrong, and 4 where a file cannot be read or written."""
@@ -24,15 +31,16 @@ def main(words: Optional[Sequence[str]] = None) -> int:
             words.remove(word)
             return tool()(words)
     about = "Compiles a program's text to a program file."
-    parser = argparse.ArgumentParser(prog="warpd-compile", description=about, epilog=NOTES)
+    parser = argparse.ArgumentParser(prog="warpd-compile", usage=USAGE, description=about, epilog=NOTES)
     source = "the text, FILE.lf; with --back the program file"
     parser.add_argument("file", metavar="FILE", nargs="?", type=Path, help=source)
     parser.add_argument("-o", dest="to", metavar="FILE", type=Path, help="where the result goes")
     parser.add_argument("--test", action="store_true", help="run the tests of a text (--test --help)")
-    parser.add_argument("--format", action="store_true", help="lay texts out in one way (--format --help)")
-    parser.add_argument("--back", action="store_true", help="write the text of a program file")
+    layout = "lay texts out in one way, each in its place; with --check only say which (--format --help)"
+    parser.add_argument("--format", action="store_true", help=layout)
     parser.add_argument("--watch", action="store_true", help="compile again at each change, until the input ends")
     parser.add_argument("--picture", action="store_true", help="draw the structure of the text, as SVG")
+    parser.add_argument("--back", action="store_true", help="write the text of a program file")
     parser.add_argument("--lsp", action="store_true", help="answer an editor over standard streams")
     given = parser.parse_args(words)
     if sum((given.back, given.watch, given.picture, given.lsp)) > 1:

@@ -16,11 +16,14 @@ where the command line is wrong; 4 where a file cannot be read or written."""
 
 
 def main(words: Sequence[str]) -> int:
-    about = "Lays texts out in one way, each in its place."
+    about = "Lays texts out in one way, and writes each in its place."
     parser = argparse.ArgumentParser(prog="warpd-compile --format", description=about, epilog=NOTES)
     parser.add_argument("files", metavar="FILE.lf", nargs="+", help="texts; `-` is standard input, to standard output")
     parser.add_argument("--check", action="store_true", help="write nothing, and say which texts would be changed")
+    parser.add_argument("-o", dest="to", metavar="FILE", help=argparse.SUPPRESS)
     given = parser.parse_args(words)
+    if given.to:
+        parser.error("a text is written in its place: `--format - < FILE.lf` writes to standard output")
     return max(_file(name, given.check) for name in given.files)
 
 
