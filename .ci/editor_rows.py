@@ -144,8 +144,12 @@ class Asker:
         return lines
 
     def complete(self, rest):
-        place, *words = rest.split(" ")
-        found = {it["label"] for it in self.result("completion", place)["items"]}
+        return self.complete_in(f"{MAIN} {rest}")
+
+    def complete_in(self, rest):
+        name, place, *words = (it.replace("+", " ") for it in rest.split(" "))
+        answer = self.session.at("completion", name, *self.place(place))
+        found = {it["label"] for it in answer["result"]["items"]}
         has = [it for it in words if not it.startswith("-")]
         wrong = [it for it in has if it not in found] + [it for it in words if it.startswith("-") and it[1:] in found]
         assert not wrong, f"{wrong} of {sorted(found)}"

@@ -10,9 +10,9 @@ from typing import NamedTuple, Optional
 from ..builder import nanoseconds
 from ..lexing import Word
 from ..tree import At
-from .keywords import BUILT_IN, KEYWORDS
+from .keywords import BUILT_IN, IN_TESTS, KEYWORDS
 from .names import Names, Symbol, Use, text_of
-from .resolving import Program, covered
+from .resolving import Program
 from .tables import Key, number_told
 from .workspace import Workspace
 
@@ -53,10 +53,10 @@ class Asking:
         program = self.workspace.program(path)
         names = program.files.get(path)
         use = names.use_at(line, column) if names else None
-        found = use and program.symbol(use)
+        found = use and _meant(program, use, column)
         if use and found is None:
             # A library's names may be those of a text that imports it.
-            others = ((it, it.symbol(use)) for it in self.workspace.programs(path)[1:])
+            others = ((it, _meant(it, use, column)) for it in self.workspace.programs(path)[1:])
             program, found = next(((it, one) for it, one in others if one), (program, None))
         return program, use, found
 
@@ -108,7 +108,7 @@ class Asking:
             return None
         if found:
             return "\n\n".join(self._told(program, program.whole(found) or found, path)), word.at
-        text = self._plain(word, path, use)
+        text = IN_TESTS.get(text_of(word), "") if not use and _is_in_test(names, word) else self._plain(word, path, use)
         return (text, word.at) if text else None
 
     def _plain(self, word: Word, path: Path, use: Optional[Use]) -> str:
@@ -181,9 +181,19 @@ def spots(program: Program, symbol: Symbol) -> Iterator[tuple[Spot, bool]]:
     """Where the files of a program mention a symbol, and which of these places declares it."""
     for path, names in program.files.items():
         for use in names.uses:
-            if program.symbol(use) is symbol:
-                width = covered(use, symbol)
-                yield Spot(path, names, use.at._replace(width=width)), use.declares is symbol
+            for found, at in program.mentioned(use):
+                if found is symbol:
+                    yield Spot(path, names, at), use.declares is symbol
+
+
+def _meant(program: Program, use: Use, column: int) -> Optional[Symbol]:
+    """What a name means at a column of it."""
+    found = program.mentioned_at(use, column) if use.is_of_test else None
+    return found[0] if found else program.symbol(use)
+
+
+def _is_in_test(names: Names, word: Word) -> bool:
+    return any(it.kind == "test" and it.begins[:2] <= word.at[:2] <= it.ends[:2] for it in names.outline)
 
 
 def _what(it: Symbol) -> str:

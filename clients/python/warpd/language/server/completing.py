@@ -9,7 +9,8 @@ from typing import NamedTuple, Optional
 
 from ..lexing import Word
 from .keywords import (
-    BODY_WORDS, BUILT_IN, KEYWORDS, MEMBER_WORDS, PROPERTY_WORDS, STATEMENT_CALLS, TOP_WORDS, TYPE_WORDS, VALUE_CALLS,
+    BODY_WORDS, BUILT_IN, FOLLOWING, IN_TESTS, KEYWORDS, MEMBER_WORDS, PROPERTY_WORDS, STATEMENT_CALLS,
+    STATEMENTS_OF_TESTS, TOP_WORDS, TYPE_WORDS, VALUE_CALLS,
 )
 from .names import Names, Symbol
 from .resolving import Program
@@ -37,8 +38,8 @@ Where = tuple[int, int]
 
 
 class Around(NamedTuple):
-    """Where a place is: `file`, `target`, `reactor`, `header` of a reaction or `body`; what stands before it, and the
-    reactor around it."""
+    """Where a place is: `file`, `target`, `reactor`, `header` of a reaction, `body` or `test`; what stands before it, in
+    a test from its name on, and the reactor around it."""
 
     where: str
     before: list[Word]
@@ -89,6 +90,8 @@ class Completing:
                 return _words(PROPERTY_WORDS, ": ")
             case "file":
                 return _words(TOP_WORDS)
+            case "test":
+                return self._in_test(program, around.before)
             case "body":
                 return self._in_body(program, names, path, around, place)
             case "header":
@@ -137,6 +140,31 @@ class Completing:
             _symbols(here), _symbols(own), more, _calls(VALUE_CALLS), _symbols(functions),
             _symbols(_constants(program)), _words(("startup", "shutdown")))
 
+    def _in_test(self, program: Program, before: list[Word]) -> Iterator[dict]:
+        """What can stand in a test: `before` has its words, from its name on."""
+        kinds = [it.kind for it in before]
+        if "LBRACE" not in kinds:
+            return _words(("in every order",))
+        start = 1 + max(number for number, kind in enumerate(kinds) if kind in ("SEMICOLON", "LBRACE"))
+        first, last = (before[number].text if before[start:] else "" for number in (min(start, len(before) - 1), -1))
+        inputs = _symbols(_members(program, program.main, ("instance", "input")))
+        values = _chain(
+            _symbols(_members(program, program.main, ("instance", "state"))), _words(("lost",)), _calls(VALUE_CALLS),
+            _symbols(_constants(program)))
+        if not before[start:]:
+            return _chain(_words(STATEMENTS_OF_TESTS), inputs)
+        if last == "expect":
+            return _chain(_words(("always",)), values, _symbols(_members(program, program.main, ("output",))))
+        if last == "withdraw":
+            return inputs
+        if last == "of" or last == "," and first == "draw":
+            return _chain(_words(("withdraw",)), inputs)
+        if last == "puts":
+            return _chain(_words(("nothing",)), _symbols(_constants(program)))
+        if before[-1].kind in ("NAME", "NUMBER", "TIME", "RPAR", "RSQB") and last not in ("at", "to", "every", "always"):
+            return _words(FOLLOWING.get(first, FOLLOWING[""]))
+        return values if first == "expect" and "at" not in [it.text for it in before[start:]] else _symbols(_constants(program))
+
     def _known(self, program: Program, path: Path, home: Optional[Symbol], kinds: Iterable[str]) -> list[Symbol]:
         """The members of a reactor, and those that it had when the text could be read the last time."""
         if home is None:
@@ -160,11 +188,22 @@ def around_of(names: Names, line: int, column: int) -> Around:
     if body:
         return Around("body", [it for it in body.parts if (it.line, it.column) < (line, start) and it.text], home)
     depth = sum((it.kind == "LBRACE") - (it.kind == "RBRACE") for it in before)
+    test = _test_around(before) if home is None else None
+    if test is not None:
+        return Around("test", test, None)
     if depth == 0 or home is None:
         kinds = [it.kind for it in before if it.kind in ("TARGET", "REACTOR", "STRUCT", "ENUM", "CONST")]
         begins = kinds[-1] if kinds else ""
         return Around("target" if depth and begins == "TARGET" else "file", before, None)
     return Around("header" if _is_header(before) else "reactor", before, home)
+
+
+def _test_around(before: list[Word]) -> Optional[list[Word]]:
+    """The words of the test in which these end, from its name on; None where they end in none."""
+    begins = [number for number, it in enumerate(before[:-1]) if it.text == "test" and before[number + 1].kind == "STRING"]
+    words = before[begins[-1] + 1:] if begins else []
+    is_open = words and not any(it.kind == "RBRACE" or it.kind in ("REACTOR", "TARGET") for it in words)
+    return words if is_open else None
 
 
 def _is_header(before: list[Word]) -> bool:
@@ -256,7 +295,7 @@ def _symbols(symbols: Iterable[Symbol], behind: str = "") -> Iterator[dict]:
 
 def _words(words: Iterable[str], behind: str = "") -> Iterator[dict]:
     for it in words:
-        text = KEYWORDS.get(it.split()[-1]) or BUILT_IN.get(it, "")
+        text = IN_TESTS.get(it) or KEYWORDS.get(it.split()[-1]) or BUILT_IN.get(it, "")
         more = {"insertText": it + behind} if behind else {}
         yield {"label": it, "kind": WORD, **({"documentation": text} if text else {}), **more}
 

@@ -56,7 +56,27 @@ BUILT_IN = {
     "version": "The version of the program file: 2 where it does not stand.",
     "microsteps_at_stop": "`true`: later microsteps of the stop are executed too.",
 }
-TOP_WORDS = ("const", "import", "enum", "struct", "function", "main reactor", "reactor", "target")
+# What the words of tests mean, which are words in tests alone.
+IN_TESTS = {
+    "test": "A test of the program: `test \"NAME\" { .. }`, run by `warpd-compile --test`.",
+    "in every order": "The records above each `expect` come again in twelve other orders.",
+    "expect": "`expect E;`: E is not 0 behind what stands above; `expect E at 30;`, `expect y puts 1 at 30;`.",
+    "always": "`expect always E;`: at the beginning, and behind each tag at which something runs.",
+    "draw": "`draw 0 to 20 of p.a = 1, withdraw p.a at 0 to 100;`: so many of these at some of these times.",
+    "withdraw": "`withdraw p.a at 11;`: what the origin of this input has at that tag does not count.",
+    "ask": "`ask;`: what has come is executed.",
+    "at": "A time, or a time and a microstep: `at 30`, `at (30, 1)`.",
+    "to": "From one to the other, both counted: `0 to 100`.",
+    "every": "`at 0 to 300 every 10`: at 0, 10 and so on.",
+    "of": "`draw 0 to 20 of p.a = 1`: what is drawn.",
+    "puts": "`expect y puts 1 at 12, 0 at (31, 1);`: all that this output puts.",
+    "nothing": "`expect y puts nothing;`",
+    "lost": "`expect lost == 0;`: how much the run lost.",
+}
+# What begins a statement of a test, and what may follow in one that begins with a word: "" is an event.
+STATEMENTS_OF_TESTS = ("expect", "draw", "withdraw", "ask")
+FOLLOWING = {"expect": ("at", "puts"), "draw": ("to", "of", "at"), "withdraw": ("at",), "": ("at", "to", "every")}
+TOP_WORDS = ("const", "import", "enum", "struct", "function", "main reactor", "reactor", "target", "test")
 MEMBER_WORDS = (
     "state", "input", "output", "logical action", "timer", "reaction", "method", "mode", "initial mode", "reset state",
 )

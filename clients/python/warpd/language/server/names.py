@@ -82,6 +82,14 @@ class Use:
     def at(self) -> At:
         return self.word.at
 
+    @property
+    def is_of_test(self) -> bool:
+        """Whether a test names it: by itself, or behind what it names."""
+        first = self
+        while first.owner:
+            first = first.owner
+        return first.role == "test"
+
 
 def text_of(word: Word) -> str:
     return word.text.strip("`")
@@ -194,18 +202,22 @@ class Scan:
         self.names.outline.append(made)
         links = Links(self, "test")
         place += 2
-        while (word := self.words[place]).kind not in ("$END", "MAIN", "REACTOR", "TARGET"):
+        while (word := self.words[place]).kind not in ("$END", "MAIN", "REACTOR", "TARGET") or self._is_in_place(place):
             depth += (word.kind == "LBRACE") - (word.kind == "RBRACE")
             place += 1
-            is_member = self._kind(place - 2) == "DOT"
-            if word.kind == "NAME" and (is_member or word.text not in TEST_WORDS):
+            is_member, is_name = self._kind(place - 2) == "DOT", word.kind == "NAME" or self._is_in_place(place - 1)
+            if is_name and (is_member or word.text not in TEST_WORDS):
                 links.name(word, is_member)
-            elif word.kind != "NAME":
+            elif not is_name:
                 links.sign(word.kind)
             if word.kind == "RBRACE" and depth <= 0:
                 break
         self._ended(made, place)
         return place
+
+    def _is_in_place(self, place: int) -> bool:
+        """Whether a word of the language stands in a place of a test: `main.n`."""
+        return self.words[place].text.isidentifier() and "DOT" in (self._kind(place - 1), self._kind(place + 1))
 
     def _import(self, place: int) -> int:
         found: list[tuple[Word, Optional[Word]]] = []

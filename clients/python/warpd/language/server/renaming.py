@@ -1,20 +1,22 @@
 """Gives a thing another name at each place that mentions it, in all texts that are known. It is refused where the
 program would not be the same: the names of all other things must mean what they meant, and what is compiled have one
-structure."""
+structure, and so must tests."""
 
 from __future__ import annotations
 
 from pathlib import Path
-from typing import Any, Optional
+from typing import Any, NamedTuple, Optional
 
 from .. import read
 from ..hierarchy import INDEX
+from ..parsing import Parser
 from ..scope import is_name
 from ..tables import grammar
+from ..testing.reading import meanings
 from .asking import KINDS, Asking, Spot
 from .keywords import BUILT_IN
 from .names import Names, Symbol
-from .resolving import KNOWN, Program, covered
+from .resolving import KNOWN, TESTS, Program
 from .workspace import Workspace
 
 
@@ -30,14 +32,16 @@ class Renaming:
 
     def can_be(self, path: Path, line: int, column: int) -> Spot:
         """The name that would be given another one."""
-        _, use, symbol = self.asking.symbol_at(path, line, column)
+        program, use, symbol = self.asking.symbol_at(path, line, column)
         if use is None:
             raise Refused("here stands no name")
         if symbol is None:
             is_known = any(use.text in it for it in KNOWN.values())
             raise Refused(f"`{use.text}` is a word of the language" if is_known else f"`{use.text}` is not declared")
-        width = covered(use, symbol)
-        return Spot(path, use.file, use.at._replace(width=width))
+        _, at = program.mentioned_at(use, column) or (None, None)
+        if at is None:
+            raise Refused(f"`{use.text}` is a word of the language")
+        return Spot(path, use.file, at)
 
     def edits(self, path: Path, line: int, column: int, new: str) -> dict[Path, list[tuple[Spot, str]]]:
         """What is written in each text; raises `Refused`."""
@@ -78,22 +82,40 @@ class Renaming:
             self._compare(main, changed, new)
 
     def _compare(self, main: Path, changed: dict[Path, Names], new: str) -> None:
-        before = self.workspace.compile(main)
-        if before.program is None:
+        before = self._compiled(main, {})
+        if before is None:
             return
         after = self._compiled(main, changed)
-        if after is None or shape(after) != shape(before.program):
+        if after is None or after.shape != before.shape:
             raise Refused(f"with the name `{new}` the program of {main.name} would not be the same")
+        if after.tests != before.tests:
+            raise Refused(f"with the name `{new}` a test of {main.name} would not be the same")
 
-    def _compiled(self, main: Path, changed: dict[Path, Names]) -> Optional[dict]:
+    def _compiled(self, main: Path, changed: dict[Path, Names]) -> Optional[Meaning]:
+        """What a program and its tests come to; None where it cannot be compiled."""
         def reader(path: Path) -> str:
             text = changed[path].text if path in changed else self.workspace.text(path)
             if text is None:
                 raise FileNotFoundError(2, "there is no such file", str(path))
             return text
 
-        program, report, _ = read(reader(main), main.name, main.parent, reader)
-        return program.file() if program and not report.errors else None
+        program, report, file = read(reader(main), main.name, main.parent, reader)
+        if program is None or report.errors:
+            return None
+        beside = main.with_name(main.stem + TESTS)
+        tests = list(file.tests)
+        if self.workspace.text(beside) is not None:
+            text = reader(beside)
+            more = Parser(text, report, report.add(beside.name, text)).file()
+            tests += more.tests if more else ()
+        return Meaning(shape(program.file()), meanings(program, report, tests))
+
+
+class Meaning(NamedTuple):
+    """What is left of a program and of its tests where all names are forgotten."""
+
+    shape: Any
+    tests: list
 
 
 def changed_text(text: str, edits: list[tuple[Spot, str]]) -> str:
@@ -111,8 +133,8 @@ def _meanings(program: Program) -> list:
     found = []
     for path, names in program.files.items():
         for use in names.uses:
-            symbol = program.symbol(use)
-            found.append((str(path), use.role, numbers.get(id(symbol)) if symbol else None))
+            symbols = [symbol for symbol, _ in program.mentioned(use)] or [program.symbol(use)]
+            found.append((str(path), use.role, [numbers.get(id(it)) for it in symbols]))
     return found
 
 

@@ -7,7 +7,9 @@ from pathlib import Path
 from typing import Optional
 
 from ..sources import MOST_FILES
+from ..tree import At
 from .names import Names, Symbol, Use, text_of
+from .spelled import is_main, parts_of
 
 WIDTH, TESTS = "_width", ".test.lf"
 # What is there without a declaration, by the roles in which it is.
@@ -112,13 +114,31 @@ class Program:
                 return self.shared.get(name)
             case "argument":
                 return self.member(self.whole(self.reactor(use.file, text_of(use.of))), name)
-            case "member":
+            case "member" if not use.is_of_test:
                 return use.owner and self.part(self.symbol(use.owner), name)
             case "value":
                 return self.value(use.home, name)
-            case "test":
-                return self.value(self.main, name)
+            case "test" | "member":
+                parts = parts_of(self, use)
+                return parts[-1].symbol if parts else self.main if is_main(self, use) else None
         return None
+
+    def mentioned(self, use: Use) -> list[tuple[Symbol, At]]:
+        """What a name mentions, and the letters that do: of a name of a test each instance of its path."""
+        if not use.is_of_test:
+            found = self.symbol(use)
+            return [(found, use.at._replace(width=covered(use, found)))] if found else []
+        parts, quoted = parts_of(self, use), len(use.word.text) - len(use.text)
+        if len(parts) == 1 and parts[0].last == len(use.text):
+            return [(parts[0].symbol, use.at)]
+        column = use.at.column + quoted // 2
+        return [(it.symbol, At(use.at.line, column + it.first, it.last - it.first)) for it in parts]
+
+    def mentioned_at(self, use: Use, column: int) -> Optional[tuple[Symbol, At]]:
+        """What the letters of a name at a column mention; an index is of what stands before it."""
+        found = self.mentioned(use)
+        before = [it for it in found if it[1].column <= column]
+        return before[-1] if before and use.is_of_test else next(iter(found), None)
 
     def value(self, home: Optional[Symbol], name: str) -> Optional[Symbol]:
         """What a name means in a reactor: its own, or one of the file."""

@@ -210,6 +210,19 @@ class Reader:
         return Expected(it.value, tag, it.is_always, it.at)
 
 
+def meanings(program: Program, report: Report, tests: Sequence[Word]) -> list:
+    """What tests come to, with numbers in the place of names: what is left of them where all names are forgotten."""
+    subject = Subject(program, report)
+    reader = Reader(subject, report)
+    return [_meaning(step, subject) for word in tests for test in reader.test(word) for step in test.steps]
+
+
+def _meaning(step: Step, subject: Subject) -> object:
+    if isinstance(step, Expected):
+        return [subject.variables.get(it.name) for it in references(step.value)], step.tag, step.is_always
+    return (step.output, step.puts) if isinstance(step, Puts) else step
+
+
 def references(it: object) -> Iterator[texts.Reference]:
     """What an expression names."""
     if isinstance(it, texts.Reference):
