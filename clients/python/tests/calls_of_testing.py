@@ -41,17 +41,17 @@ class Door(unittest.TestCase):
 
     def test_a_variable_that_is_otherwise(self):
         case = self.pushed(door, 27)
-        with self.fails("door.found == 2   | door.found is 1", "behind\n      door.push = 1 at 27;"):
+        with self.fails("expected door.found == 2, got door.found is 1\nbehind\n  door.push = 1 at 27;"):
             case.expect_vars({"door.found": 2})
-        with self.fails("door.open == 1 at 33   | door.open is 0"):
+        with self.fails("expected door.open == 1 at 33, got door.open is 0"):
             case.expect("door.open == 1", time=33)
-        with self.fails("always door.open == 0   | door.open is 1 at 27"):
+        with self.fails("expected always door.open == 0, got door.open is 1 at 27"):
             case.expect_always("door.open == 0")
 
     def test_another_order(self):
         case = self.pushed(late, 8, 27)
         case.expect_vars({"door.found": 2})
-        with self.fails("in another order", "door.push = 1 at 27;\n  ask;\n  door.push = 1 at 8;"):
+        with self.fails("(in another order", "door.push = 1 at 27;\n  ask;\n  door.push = 1 at 8;"):
             case.in_every_order()
 
     def test_what_is_wrong_with_a_call(self):
@@ -72,7 +72,7 @@ class Door(unittest.TestCase):
         case.expect_vars({"bed[1].water": 2, "garden[1].bed.water": 1, "bed_0.water": 0})
         self.assertEqual(list(case.vars), ["bed[0].water", "bed[1].water", "garden[0].bed.water", "garden[1].bed.water"])
         self.assertEqual([case.vars[it] for it in ("bed[1].water", "bed_1.water", "garden_1_bed.water")], [2, 2, 1])
-        with self.fails("bed[1].water == 3   | bed[1].water is 2", "behind\n      bed[1].pour[0] = 2 at 3;"):
+        with self.fails("expected bed[1].water == 3, got bed[1].water is 2", "behind\n  bed[1].pour[0] = 2 at 3;"):
             case.expect_vars({"bed_1.water": 3})
         with self.assertRaisesRegex(KeyError, r"no variable is called `bed\[2\].water`: there are bed\[0\].water, "):
             case.vars["bed[2].water"]
@@ -85,8 +85,28 @@ class Door(unittest.TestCase):
             case.expect("door.found <= 1")
 
         texts = 'test "a counter-example" {\n  door.push = 1 at ', "  expect door.found <= 1;\n}"
-        with self.fails("run ", " of 100, seed 1", *texts):
+        with self.fails("expected door.found <= 1, got door.found is 2\nrun ", " of 100, seed 1", *texts) as raised:
             found_once()
+        self.assertNotIn("behind", str(raised.exception))
+
+    def test_draws_and_an_assertion_of_python(self):
+        @door.drawn("1 of door.push = 1 to 9 at 0 to 60", runs=20)
+        def never_found(case):
+            assert case.vars["door.found"] < 1, "it is found"
+
+        with self.fails("it is found\n", "\nrun 1 of 20, seed 1\nbehind\n  door.push = 1 at "):
+            never_found()
+
+    def test_what_is_told_shows_the_line_of_the_test(self):
+        @door.drawn("1 of door.push = 1 to 9 at 0 to 60", runs=20)
+        def never_found(case):
+            case.expect("door.found < 1")
+
+        result = unittest.TestResult()
+        unittest.FunctionTestCase(never_found).run(result)
+        ((_, told),) = result.failures
+        self.assertIn('case.expect("door.found < 1")', told)
+        self.assertNotIn("in _drawn", told)
 
 
 @door.drawn("0 to 10 of door.push = 1", runs=5, seed=4)

@@ -37,7 +37,7 @@ from .language.testing.drawing import Smaller, drawn
 from .language.testing.judging import ORDERS, Failure, Judge
 from .language.testing.plan import ASK, Arrival, Expected, Given, Puts, Step
 from .language.testing.reading import Reader
-from .language.testing.telling import sides
+from .language.testing.telling import short, sides
 from .language.testing.words import collapsed, renamed
 from .language.lexing import Lexer
 from .language.tables import grammar
@@ -46,17 +46,21 @@ from .language.words import in_place
 
 __all__ = ["Case", "Program", "Unmet", "program"]
 
+# What is told shows the line of the test: pytest leaves out the calls of a module that says this, and unittest those
+# that stand before the test.
+__tracebackhide__ = __unittest = True
 HERE = At(1, 1)
 # A tag is a time, or a time and a microstep.
 Tags = Union[int, tuple[int, int]]
 
 
 class Unmet(AssertionError):
-    """Something is not as it is expected. `expectations` has it as it would stand in a `test` block."""
+    """Something is not as it is expected: `text` says what, and `behind` which records show it. `expectations` has it
+    as it would stand in a `test` block."""
 
-    def __init__(self, text: str, expectations: Iterable[str] = ()):
-        super().__init__(text)
-        self.expectations = list(expectations)
+    def __init__(self, text: str, expectations: Iterable[str] = (), behind: Iterable[str] = ()):
+        self.text, self.expectations = text, list(expectations)
+        super().__init__("\n".join([text, *behind]))
 
 
 def program(path: Union[str, PathLike], warpd: Optional[str] = None) -> Program:
@@ -114,10 +118,16 @@ class Program:
                 least = Smaller(lambda parts: failed(parts) is not None).made(records)
                 in_order = orders.by_tag(least)
                 error, case = failed(in_order) or failed(least)
-                unmet = getattr(error, "expectations", ())
-                text = spelling.block("a counter-example", case.arrival, unmet, self.subject)
-                note = f"run {run + 1} of {runs}, seed {seed}; a test that shows it:"
-                raise Unmet(f"{error}\n{note}\n\n{text}", unmet) from None
+                note = f"run {run + 1} of {runs}, seed {seed}"
+                told = Unmet(f"{getattr(error, 'text', error)}\n{note}", (), self._shown(error, case))
+                raise told.with_traceback(error.__traceback__) from None
+
+    def _shown(self, error: AssertionError, case: Case) -> list[str]:
+        """What shows a mistake: a test, or the records alone where what fails is no `expect`."""
+        unmet = getattr(error, "expectations", ())
+        if not unmet:
+            return ["behind", *(f"  {it}" for it in spelling.arrived(case.arrival, self.subject))]
+        return ["a test that shows it:", "", spelling.block("a counter-example", case.arrival, unmet, self.subject)]
 
     def step(self, text: str) -> Step:
         """What a line of a `test` block stands for; one with a fault is a `ValueError` that shows it."""
@@ -257,9 +267,8 @@ class Case:
     def _told(self, found: Optional[Failure], expectation: str) -> None:
         if found is None:
             return
-        lines = [found.title] * bool(found.title) + sides(found)
+        lines = [short(found)] + (sides(found) if len(found.expected) > 1 or found.title else [])
+        behind = ["behind", *(f"  {it}" for it in spelling.arrived(self.arrival, self.program.subject))]
         if found.example:
-            lines += ["a test that shows it:", "", found.example]
-        else:
-            lines += ["behind", *(f"      {it}" for it in spelling.arrived(self.arrival, self.program.subject))]
-        raise Unmet("\n" + "\n".join(lines), [expectation] * bool(expectation))
+            behind = ["a test that shows it:", "", found.example]
+        raise Unmet("\n".join(lines), [expectation] * bool(expectation), behind)

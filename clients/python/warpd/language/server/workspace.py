@@ -14,8 +14,7 @@ from ..lexing import Word
 from ..model import Program as Compiled
 from ..parsing import Parser
 from ..sources import read_text
-from ..testing.reading import Reader
-from ..testing.subject import Subject
+from ..testing.reading import judge
 from .documents import Document, Positions, plain
 from .names import Names
 from .resolving import TESTS, Program
@@ -130,7 +129,7 @@ class Workspace:
 
         program, report, file = read(text, path.name, path.parent, reader)
         if program and file and not report.errors:
-            _judge_tests(program, file.tests, report)
+            judge(program, report, file.tests)
         found.take(report, path.parent)
         names = self.names(path)
         if names and not names.main:
@@ -149,7 +148,7 @@ class Workspace:
         if program and file and not report.errors:
             before = report.add(path.name, found.texts[path])
             beside = Parser(found.texts[path], report, before).file()
-            _judge_tests(program, beside.tests if beside else (), report)
+            judge(program, report, beside.tests if beside else ())
             found.take(report, path.parent)
             found.faults = {path: found.faults.get(path, [])}
         self.found[path] = found
@@ -166,13 +165,6 @@ class Workspace:
         """A text was opened or closed: nothing is kept that was made of it."""
         self.found.pop(path, None)
         self.tables.pop(path, None)
-
-
-def _judge_tests(program: Compiled, tests: Sequence[Word], report: Report) -> None:
-    """Tells what is wrong with tests of a program."""
-    reader = Reader(Subject(program, report), report) if tests else None
-    for it in tests:
-        reader.test(it)
 
 
 def _of_part(faults: list[Fault], names: Names) -> list[Fault]:

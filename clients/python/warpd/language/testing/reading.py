@@ -32,7 +32,7 @@ def read(text: str, file: str, folder: Optional[Path] = None, more: Sequence[tup
     program, its = _compiled(text, report, folder or Path(file).parent)
     words = list(its.tests) if its else []
     for name, other in more:
-        words += _beside(name, other, report)
+        words += beside(name, other, report)
     if program is None:
         return Reading(None, [], report)
     subject = Subject(program, report)
@@ -66,7 +66,7 @@ def _compiled(text: str, report: Report, folder: Path) -> tuple[Optional[Program
     return (None if report.errors else program), file
 
 
-def _beside(name: str, text: str, report: Report) -> Sequence[Word]:
+def beside(name: str, text: str, report: Report) -> Sequence[Word]:
     """The blocks of a file that has tests alone."""
     before = report.add(name, text)
     file = Parser(text, report, before).file()
@@ -208,6 +208,13 @@ class Reader:
             time, micro = self._tag(it.moment)
             tag = time, micro if it.moment.micro else None
         return Expected(it.value, tag, it.is_always, it.at)
+
+
+def judge(program: Program, report: Report, tests: Sequence[Word]) -> None:
+    """Tells what is wrong with tests of a program."""
+    reader = Reader(Subject(program, report), report) if tests else None
+    for it in tests:
+        reader.test(it)
 
 
 def meanings(program: Program, report: Report, tests: Sequence[Word]) -> list:

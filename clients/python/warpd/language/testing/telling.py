@@ -40,6 +40,15 @@ def place(it: Failure, report: Report) -> str:
     return f"{file}:{it.at.line - first}:{it.at.column}"
 
 
+def short(it: Failure) -> str:
+    """What is not so, in a line."""
+    if not it.expected:
+        return it.title
+    between = " " if it.expected[0].endswith(" puts") else ", "
+    wanted, got = (between.join([*its[:3], ".."] if len(its) > 3 else its) for its in (it.expected, it.got))
+    return f"expected {wanted}, got {got}" + (f" ({it.title})" if it.title else "")
+
+
 def sides(it: Failure) -> list[str]:
     """What was expected on the left and what was on the right; what differs has a mark between."""
     if not it.expected:
@@ -81,7 +90,6 @@ def _case(it: Outcome, report: Report) -> str:
     head = f'<testcase classname={quoteattr(name)} name={quoteattr(it.test.name)} time="{it.seconds:.3f}"'
     if not it.failures:
         return f"{head} />"
-    first = it.failures[0]
-    short = first.title or f"expected {first.expected[0]}, got {first.got[0]}"
+    told = short(it.failures[0])
     text = "\n".join(failure(each, report) for each in it.failures)
-    return f"{head}><failure message={quoteattr(short)}>{escape(text)}</failure></testcase>"
+    return f"{head}><failure message={quoteattr(told)}>{escape(text)}</failure></testcase>"
