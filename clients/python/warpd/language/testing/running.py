@@ -18,6 +18,7 @@ from .plan import ASK, Arrival, Given
 from .subject import Subject
 
 CHECKOUT = Path(__file__).resolve().parents[5]
+PROVED = Path("crates", "warpd", "out", "warpd")
 # A replica that has not answered so long is ended.
 SECONDS = 60
 NOWHERE = (
@@ -30,27 +31,47 @@ class Fails(Exception):
 
 
 def found(path: Optional[str] = None) -> list[str]:
-    """The command of `warpd`: this one, else that of the path, else that of the checkout, which is built if need be."""
-    if path:
-        named = shutil.which(path)
-        if not named:
-            raise Fails(f"{path}: there is no such program")
+    """The command of `warpd`: this one, else that of the path, else that of the checkout. Where ./warpd of the checkout
+    stands on the path and would have to prove the program first, that is ./try, which builds it if need be."""
+    proving, tried = CHECKOUT / "warpd", CHECKOUT / "try"
+    named = shutil.which(path or "warpd")
+    if path and not named:
+        raise Fails(f"{path}: there is no such program")
+    if named and _is(named, tried):
+        return [_built(tried)]
+    if named and not _is(named, proving):
         return [os.path.abspath(named)]
-    if on_path := shutil.which("warpd"):
-        return [os.path.abspath(on_path)]
-    proved, tried = CHECKOUT / "crates" / "warpd" / "out" / "warpd", CHECKOUT / "try"
-    if proved.exists():
-        return [str(CHECKOUT / "warpd")]
+    if path or _is_current():
+        _run(proving)
+        return [str(CHECKOUT / PROVED)]
     if not tried.exists():
         raise Fails(NOWHERE)
     return [_built(tried)]
 
 
+def _is(named: str, script: Path) -> bool:
+    return script.exists() and os.path.samefile(named, script)
+
+
+def _is_current() -> bool:
+    """Whether the checkout has the proved program, and no source of it is newer."""
+    if not (CHECKOUT / PROVED).exists():
+        return False
+    built = (CHECKOUT / PROVED).stat().st_mtime
+    sources = (it for part in ("src", "specs", "proofs") for it in CHECKOUT.glob(f"crates/*/{part}/**/*"))
+    return all(it.stat().st_mtime <= built for it in sources)
+
+
+def _run(script: Path) -> None:
+    """Starts a script once, so that it builds what it becomes; what it says of that is shown."""
+    made = subprocess.run([script, "--version"], stdout=subprocess.DEVNULL, check=False)
+    if made.returncode:
+        raise Fails(f"{script} builds no program")
+
+
 def _built(tried: Path) -> str:
     """The program that ./try becomes, which it builds where it is missing; else ./try itself."""
-    made = subprocess.run([tried, "--version"], stdout=subprocess.DEVNULL, check=False)
-    if made.returncode:
-        raise Fails(f"{tried} builds no program")
+    _run(tried)
     kept = tried.parent / "out" / "try"
     try:
         program = kept / (kept / "current").read_text().split()[0] / "warpd"
