@@ -21,6 +21,7 @@ BEGINS = {
     "TEST", "EXPECT", "WITHDRAW", "DRAW", "ASK",
 }
 ENDS = {"SEMICOLON", "BODY", "LBRACE", "RBRACE", "TEST"}
+TOLD_IN_TESTS = ("SEMICOLON", "NAME", "NUMBER", "RBRACE")
 WORDS = {
     "SEMICOLON": "`;`", "LPAR": "`(`", "RPAR": "`)`", "LBRACE": "`{`", "RBRACE": "`}`", "COMMA": "`,`", "COLON": "`:`",
     "EQUALS": "`=`", "DOT": "`.`", "ARROW": "`->`", "BODY": "`{= .. =}`", "NAME": "a name", "NUMBER": "a number",
@@ -43,8 +44,8 @@ def _end(words: Sequence[Word], start: int, stopped: int) -> int:
     """Where the member or statement ends that begins at `start` and has the word `stopped`, with its braces."""
     end, braces, brackets = start, 0, 0
     while end < len(words) - 1:
-        kind = words[end].kind
-        if braces == 0 and end > stopped and (kind in BEGINS or kind == "RBRACE"):
+        kind, in_loop = words[end].kind, words[start].text == "for" and brackets > 0
+        if braces == 0 and end > stopped and (kind in BEGINS or kind == "RBRACE") and not in_loop:
             break
         braces += (kind == "LBRACE") - (kind == "RBRACE")
         brackets += (kind == "LPAR") - (kind == "RPAR")
@@ -164,8 +165,8 @@ def _is_in_reactor(words: Sequence[Word], stopped: Stopped) -> bool:
 
 
 def _telling(accepted: Collection[str], table: dict) -> list[str]:
-    """Of what could stand at a place what is worth telling: in a test its words and `;`, where one of them could."""
-    ours = {*KEYWORDS.values(), "SEMICOLON"} & set(accepted) if table is refused.TEST else ()
+    """Of what could stand at a place what is worth telling: in a test no operators, where one of its words could."""
+    ours = {*KEYWORDS.values(), *TOLD_IN_TESTS} & set(accepted) if table is refused.TEST else ()
     return [it for it in WORDS if it in (ours or accepted)]
 
 
@@ -186,6 +187,8 @@ def _foreign(words: Sequence[Word], number: int, table: dict) -> Optional[tuple]
             return (before if before.text == "(" else words[number]), ("a start stands behind `=`", f"write `= {last}`")
     if words[start].text in refused.BEGINNINGS and words[start].kind != "NAME":
         return words[start], refused.BEGINNINGS[words[start].text]
+    if table is refused.STRUCTURE and (words[number].kind, words[number - 1].text) == ("STRING", "test"):
+        return words[number - 1], refused.TEST_INSIDE
     for word in (words[start], words[number], words[max(number - 1, 0)]):
         key = {"STRING": '"', "ATTRIBUTE": "@"}.get(word.kind, word.text)
         if key in table and word.text != "@origin" and word.kind != "BODY":

@@ -57,8 +57,12 @@ TEST = {
     **dict.fromkeys(("event", "send", "inject"), ("an event is written as what it says", "write `door.push = 1 at 27;`")),
     "after": ("a time in a test is counted from the beginning", "write `at 27`"),
     "let": ("a test has no `let`", "`const NAME = 3` stands outside of reactors"),
+    "for": ("a test has no loops", "write `door.push = 1 at 0 to 30 every 10;`, or take `warpd.testing` of Python"),
+    "if": ("a test has no `if`", "write `expect` with `&&`, `||` or `? :`, or take `warpd.testing` of Python"),
     '"': ("a text stands only as the name of a test", ""),
 }
+
+TEST_INSIDE = ("a test stands outside of reactors", "put it behind the `}` of this one")
 
 ARRAYS = ("warpd has no arrays", "a state variable for each place, and `if` or `? :` between them")
 
@@ -108,7 +112,7 @@ TYPES = {
 # What begins a member of a reactor or a part of a file.
 MEMBERS = (
     "state", "input", "output", "logical", "timer", "reaction", "reactor", "main", "const", "target", "function",
-    "method", "enum", "struct",
+    "method", "enum", "struct", "test",
 )
 
 # What is not all of a beginning.

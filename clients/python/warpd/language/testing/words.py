@@ -42,7 +42,7 @@ def _begins(words: Sequence[Word], number: int) -> bool:
         return False
     behind = [it.kind for it in words[number + 1:number + 3]]
     is_behind_a_part = number > 0 and words[number - 1].kind in ("RBRACE", "SEMICOLON", "BODY")
-    has_name = behind[0] == "STRING" or words[number + 1].text == '"'
+    has_name = behind[0] == "STRING" or words[number + 1].text[:1] in ('"', "'")
     return has_name or is_behind_a_part and (behind[0] == "LBRACE" or behind == ["NAME", "LBRACE"])
 
 
