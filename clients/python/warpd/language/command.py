@@ -12,6 +12,7 @@ from typing import Optional
 from . import compiled, read, text_of
 from .files import shown, shown_names
 
+ABOUT = "Compiles a program's text to a program file."
 USAGE = """warpd-compile FILE.lf [-o FILE.json]
        warpd-compile --test FILE.lf [TESTS ..]
        warpd-compile --format [--check] FILE.lf ..
@@ -30,8 +31,7 @@ def main(words: Optional[Sequence[str]] = None) -> int:
         if word in words:
             words.remove(word)
             return tool()(words)
-    about = "Compiles a program's text to a program file."
-    parser = argparse.ArgumentParser(prog="warpd-compile", usage=USAGE, description=about, epilog=NOTES)
+    parser = argparse.ArgumentParser(prog="warpd-compile", usage=USAGE, description=ABOUT, epilog=NOTES)
     source = "the text, FILE.lf; with --back the program file"
     parser.add_argument("file", metavar="FILE", nargs="?", type=Path, help=source)
     parser.add_argument("-o", dest="to", metavar="FILE", type=Path, help="where the result goes")

@@ -11,7 +11,6 @@ from .lexing import Lexer, Word
 from .tables import Stopped, grammar
 from .testing import tree as tests
 from .testing.words import KEYWORDS, collapsed, wrong_head
-from .tree import At
 from .words import in_place
 
 # A text with more than so many faults of this kind is read no further.

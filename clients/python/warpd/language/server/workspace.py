@@ -3,15 +3,13 @@
 from __future__ import annotations
 
 import os
-from collections.abc import Iterator, Sequence
+from collections.abc import Iterator
 from dataclasses import dataclass, field
 from pathlib import Path
 from typing import Optional
 
 from .. import read
 from ..faults import Fault, Report
-from ..lexing import Word
-from ..model import Program as Compiled
 from ..parsing import Parser
 from ..sources import read_text
 from ..testing.reading import judge
