@@ -10,6 +10,7 @@ from pathlib import Path
 
 from warpd.language.lexing import Lexer
 from warpd.language.tables import grammar
+from warpd.language.testing.words import collapsed
 from warpd.language.words import in_place
 
 ROOT = Path(__file__).resolve().parent.parent
@@ -23,6 +24,7 @@ reactor Player {
   reaction(hit) {= live -= hit; =}
 }
 main reactor { p1 = new Player(); @origin(0) input p1.hit; }
+test "a" { p1.hit = 1 at 3; expect p1.lives == 2; }
 """
 RENAMED = "renamed   state hearts: int = 3;   reaction(hit) {= hearts -= hit; =}"
 # What Visual Studio Code calls a word of each kind; a kind that is not named here is a word of the language.
@@ -50,14 +52,14 @@ def editor(folder, command, name):
 def vim(folder):
     told = editor(folder, ["vim", "-N", "-u", "NONE", "-es", "-S", TESTS / "ale.vim"], "vim")
     assert told == [
-        "filetype warpd", "colour warpdStructure warpdBody",
+        "filetype warpd", "colour warpdStructure warpdBody warpdTestWord warpdTestWord warpdTest",
         "fault 5:20 `live` is not declared here did you mean `lives`?", "definition 3:9", RENAMED], told
 
 
 def emacs(folder):
     told = editor(folder, ["emacs", "--batch", "-Q", "-l", TESTS / "eglot.el"], "emacs")
     assert told == [
-        "mode warpd-mode", "colour font-lock-keyword-face", "fault 5: warpd: `live` is not declared here",
+        "mode warpd-mode", "colour font-lock-keyword-face font-lock-keyword-face nil", "fault 5: warpd: `live` is not declared here",
         "definition 3:9", RENAMED], told
 
 
@@ -124,7 +126,7 @@ def same_words(paths):
     for path, found in zip(paths, tokens(paths)):
         text = path.read_text()
         lines = text.split("\n")
-        for word in every_word(in_place(Lexer(text, grammar().kinds).words())):
+        for word in every_word(in_place(collapsed(Lexer(text, grammar().kinds).words()))):
             kind = word.kind if word.kind in SCOPES else "WORD" if word.text.isidentifier() else "SIGN"
             if not word.text or kind == "SIGN" and word.text in "(){}[]:;,.":
                 continue

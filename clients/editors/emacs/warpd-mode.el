@@ -17,6 +17,24 @@
   "The compiler, whose `--lsp' is the language server."
   :type 'string)
 
+(defconst warpd-test-words
+  (concat "\\(?:^\\|[^.`]\\)\\_<\\("
+          (regexp-opt '("expect" "draw" "withdraw" "ask" "always" "puts" "nothing" "at" "to" "every" "of" "lost"))
+          "\\)\\_>"))
+
+(defun warpd-in-test-p (place)
+  "Whether PLACE is in a block of a test."
+  (let ((open (car (last (nth 9 (save-excursion (syntax-ppss place)))))))
+    (and open (save-excursion (goto-char open) (beginning-of-line) (looking-at "test[ \t]+\"")))))
+
+(defun warpd-match-test-word (limit)
+  "Find the next word of tests before LIMIT."
+  (let (found)
+    (while (and (not found) (re-search-forward warpd-test-words limit t))
+      (setq found (save-match-data
+                    (and (not (looking-at "[ \t]*[.[]")) (warpd-in-test-p (match-beginning 1))))))
+    found))
+
 (defconst warpd-font-lock
   `((,(regexp-opt '("target" "const" "import" "enum" "struct" "function" "method" "main" "reactor" "extends" "state"
                     "input" "output" "logical" "action" "timer" "reaction" "new" "after" "let" "if" "else" "for"
@@ -30,6 +48,10 @@
     ("\\_<\\(?:reactor\\|new\\|extends\\|mode\\|enum\\|struct\\)[ \t]+\\([A-Za-z_][A-Za-z0-9_]*\\)" 1 font-lock-type-face)
     ("\\_<\\(put\\|schedule\\|request_stop\\|set_mode\\|present\\|min\\|max\\|abs\\|clamp\\|floor\\|round\\|fixed\\|among\\)[ \t]*("
      1 font-lock-builtin-face)
+    ("^\\(test\\)[ \t]+\"" 1 font-lock-keyword-face)
+    ("\\_<in[ \t]+every[ \t]+order\\_>" . font-lock-keyword-face)
+    ;; The words of tests, where they stand in one.
+    (warpd-match-test-word 1 font-lock-keyword-face)
     ("@[a-z]+" . font-lock-preprocessor-face)))
 
 (defvar warpd-mode-syntax-table

@@ -40,7 +40,8 @@ endfunction
 function! s:Do() abort
   edit game.lf
   call add(s:lines, 'filetype ' . &filetype)
-  call add(s:lines, 'colour ' . synIDattr(synID(2, 1, 1), 'name') . ' ' . synIDattr(synID(5, 20, 1), 'name'))
+  let places = [[2, 1], [5, 20], [8, 23], [8, 29], [8, 12]]
+  call add(s:lines, 'colour ' . join(map(places, {_, it -> synIDattr(synID(it[0], it[1], 1), 'name')})))
   ALELint
   call s:Wait('!empty(getloclist(0))')
   call add(s:lines, 'fault ' . s:Faults())

@@ -144,12 +144,12 @@ async function main() {
   const definition = await registered.Definition.provideDefinition(document, at);
   assert.strictEqual(`${definition.uri} ${shown(definition.range)}`, `${name} 3:9-14`);
   const uses = await registered.Reference.provideReferences(document, at, { includeDeclaration: false });
-  assert.deepStrictEqual(uses.map((it) => shown(it.range)), ["5:20-25"]);
+  assert.deepStrictEqual(uses.map((it) => shown(it.range)), ["5:20-25", "8:39-44"]);
   const marks = await registered.DocumentHighlight.provideDocumentHighlights(document, at);
-  assert.deepStrictEqual(marks.map((it) => shown(it.range)), ["3:9-14", "5:20-25"]);
+  assert.deepStrictEqual(marks.map((it) => shown(it.range)), ["3:9-14", "5:20-25", "8:39-44"]);
   const symbols = await registered.DocumentSymbol.provideDocumentSymbols(document);
   assert.deepStrictEqual(symbols.map((it) => [it.name, it.children.map((each) => each.name)]),
-    [["Player", ["lives", "hit", "reaction(hit)"]], ["main", ["p1"]]]);
+    [["Player", ["lives", "hit", "reaction(hit)"]], ["main", ["p1"]], ["a", []]]);
   const proposals = await registered.CompletionItem.provideCompletionItems(document, at);
   assert.ok(["lives", "hit", "let", "put"].every((it) => proposals.some((each) => each.label === it)));
 
@@ -157,7 +157,7 @@ async function main() {
   assert.strictEqual(`${shown(range.range)} ${range.placeholder}`, "5:20-25 lives");
   const edit = await registered.Rename.provideRenameEdits(document, at, "hearts");
   const written = edit.edits[name].map((it) => `${shown(it.range)} ${it.newText}`).sort();
-  assert.deepStrictEqual(written, ["3:9-14 hearts", "5:20-25 hearts"]);
+  assert.deepStrictEqual(written, ["3:9-14 hearts", "5:20-25 hearts", "8:39-44 hearts"]);
   await assert.rejects(registered.Rename.provideRenameEdits(document, at, "hit"), /`hit` is taken: it is an input/);
   const none = await registered.Hover.provideHover(document, new Position(5, 1));
   assert.strictEqual(none, null);

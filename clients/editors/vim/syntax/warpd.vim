@@ -27,6 +27,11 @@ syntax match warpdArrow "->"
 syntax region warpdString start=+"+ end=+"+ oneline
 syntax match warpdComment "//.*$" contains=warpdTodo,@Spell
 syntax region warpdComment start="/\*" end="\*/" contains=warpdTodo,@Spell
+syntax region warpdTest matchgroup=warpdStructure start=+\<test\>\%(\s*"\)\@=+ matchgroup=NONE end=+}+
+    \ contains=warpdTestWord,warpdString,warpdComment,warpdBoolean,warpdNumber,warpdTime,warpdQuoted
+syntax match warpdTestWord "\<in\s\+every\s\+order\>" contained
+syntax match warpdTestWord contained
+    \ "[.`]\@1<!\<\%(expect\|draw\|withdraw\|ask\|always\|puts\|nothing\|at\|to\|every\|of\|lost\)\>\%(\s*[.[]\)\@!"
 syntax keyword warpdTodo TODO FIXME XXX contained
 
 syntax region warpdBody matchgroup=warpdBrace start="{=" end="=}" contains=@warpdStatement
@@ -58,5 +63,6 @@ highlight default link warpdBrace Delimiter
 highlight default link warpdControl Conditional
 highlight default link warpdLet Statement
 highlight default link warpdCall Function
+highlight default link warpdTestWord Keyword
 
 let b:current_syntax = 'warpd'
