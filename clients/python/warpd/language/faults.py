@@ -5,9 +5,8 @@ from __future__ import annotations
 import difflib
 import re
 import unicodedata
-from collections.abc import Iterable, Mapping, Sequence
+from collections.abc import Iterable, Sequence
 from dataclasses import dataclass
-from typing import Optional
 
 from .tree import At
 
@@ -31,8 +30,8 @@ class Report:
         self.file, self.lines = file, text.split("\n")
         self.faults: list[Fault] = []
         self.told: set[Fault] = set()
-        # Of each mistake that is told once: the places where it shows, with what is told there.
-        self.alike: dict[str, dict[At, tuple[str, str]]] = {}
+        # Of each mistake that is told once: the number of its fault, and the places where it shows.
+        self.alike: dict[str, tuple[int, set[At]]] = {}
         # How often an error was told, one that is told again counted too.
         self.errors = 0
         # Each file, and how many lines stand before its first: those of a further file are counted on.
@@ -60,16 +59,18 @@ class Report:
 
     def error_once(self, at: At, mistake: str, text: str, hint: str) -> None:
         """An error that one mistake is the cause of at several places: it is told at the first of them, with how many
-        more there are. `text` is what is told where it is the first."""
-        places = self.alike.setdefault(mistake, {})
-        before = _of_all(places)
-        places.setdefault(at, (text, hint))
+        more there are. `text` is what is told where it is the first, `hint` the same everywhere."""
         self.errors += 1
-        now = _of_all(places)
-        if before in self.faults:
-            self.faults[self.faults.index(before)] = now
-        else:
-            self.faults.append(now)
+        if mistake not in self.alike:
+            self.alike[mistake] = len(self.faults), set()
+            self.faults.append(Fault(at, "error", text, hint))
+        number, places = self.alike[mistake]
+        places.add(at)
+        first, more = self.faults[number], len(places) - 1
+        if at < first.at:
+            first = Fault(at, "error", text, hint)
+        again = f"; so it is at {more} more place{'s' * (more > 1)}" if more else ""
+        self.faults[number] = Fault(first.at, "error", first.text, hint + again)
 
     def forget(self, count: int) -> None:
         """Forgets what was told behind the first `count` faults."""
@@ -102,16 +103,6 @@ class Report:
         text = f"{plain(file)}:{line - first}:{column}: {fault.kind}: {plain(fault.text)}\n{number} | {source}\n"
         text += f"{' ' * len(number)} | {blank}{'^' * max(1, min(width, len(source) - column + 1))}\n"
         return text + (f"{' ' * len(number)} = hint: {plain(fault.hint)}\n" if fault.hint else "")
-
-
-def _of_all(places: Mapping[At, tuple[str, str]]) -> Optional[Fault]:
-    """The one fault of a mistake that shows at these places."""
-    if not places:
-        return None
-    at, more = min(places), len(places) - 1
-    text, hint = places[at]
-    again = f"; so it is at {more} more place{'s' * (more > 1)}" if more else ""
-    return Fault(at, "error", text, hint + again)
 
 
 def plain(text: str) -> str:

@@ -63,13 +63,13 @@ class ClassWarnings:
         def unused(it: Instance) -> tuple[str, ...]:
             return tuple(each.text for each in names if Port(it.name, it.of.file_name(each.text)) not in self.used)
 
-        for some in dict.fromkeys(map(unused, self.instances)):
-            if some:
-                told, hint = channels_told(some, len(names))
-                self._each(
-                    lambda it, some=some: unused(it) == some, names[0].at, f"`{told}` leads nowhere",
-                    lambda it, told=told: f"`{it.title}.{told}` leads nowhere", hint,
-                )
+        found = {it.name: unused(it) for it in self.instances}
+        for some in dict.fromkeys(it for it in found.values() if it):
+            told, hint = channels_told(some, len(names))
+            self._each(
+                lambda it, some=some: found[it.name] == some, names[0].at, f"`{told}` leads nowhere",
+                lambda it, told=told: f"`{it.title}.{told}` leads nowhere", hint,
+            )
 
     def _each(
         self, holds: Callable[[Instance], bool], at: At, text: str, told: Callable[[Instance], str], hint: str = ""

@@ -6,7 +6,7 @@
 
 It speaks the Language Server Protocol, version 3.17. `frames` reads and writes messages, `documents` has the texts as
 the editor has them, `names` finds what each text declares and mentions, whether it parses or not, `resolving` what
-each name means, `workspace` keeps what is known of each text, and `serving` answers."""
+each name means, `spelled` in each spelling of tests, `workspace` keeps what is known of each text, and `serving` answers."""
 
 from .serving import Server, serve
 

@@ -55,13 +55,14 @@ class Subject:
     def _spellings(self) -> dict[str, str]:
         """How the text spells each variable: `bed[3].ball.height` the one that a program file calls
         `bed_3.ball_height`."""
+        fields = {
+            f"{name}.{flat}": f"{it.title}.{group}.{field}" for name, it in self.program.instances.items()
+            for group, names in it.of.scope.fields.items() for field, flat in names.items()
+        }
         found = {}
         for name in self.variables:
             instance, its = name.split(".")
-            it = self.program.instances[instance]
-            groups = it.of.scope.fields.items()
-            fields = {flat: f"{group}.{field}" for group, names in groups for field, flat in names.items()}
-            found[name] = f"{it.title}.{fields.get(its, its)}"
+            found[name] = fields.get(name) or f"{self.program.instances[instance].title}.{its}"
         return found
 
     def _main(self) -> str:
