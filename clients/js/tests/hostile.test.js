@@ -41,7 +41,9 @@ class Said {
   }
 }
 
-const GREETING = { names: 'names {"vars":["r.x"],"inputs":[],"outputs":[]}', program: "program 1 abc", watch: "watching 1", horizon: "horizon 0 0 0" }
+const GREETING = {
+  names: 'names {"vars":["r.x"],"inputs":[],"outputs":[]}', program: "program 1 abc", watch: "watching 1", horizon: "horizon 0 0 0",
+}
 
 /**
  * A client whose host greets it as `answers` has it, once it is over with that.
@@ -63,9 +65,10 @@ async function greeted(answers = GREETING, options = {}) {
  * @param {string} words
  */
 function ended(client, socket, words) {
+  const said = client.error?.message ?? ""
   assert.equal(client.state, "closed", words)
   assert.ok(client.error instanceof Ended, words)
-  assert.ok(client.error.message.includes(words), `${client.error.message} has not ${words}`)
+  assert.ok(said.includes(words), `${said} has not ${words}`)
   assert.ok(socket.isClosed, words)
 }
 
@@ -80,8 +83,11 @@ test("pushes of a kind that is not known are passed over, whatever it is called"
 })
 
 test("a push that does not read ends the client with its words, and what stands behind it is not taken", async () => {
-  const malformed = ["log x event 0 1 0 0 1", "log", "log 1 event 0 1 0 0", "log 1 event 0 1 0 0 1.5", "released 0 1 0 0 y", "released", "vars 1 z",
-    "vars", "horizon 0 0", "breach 1 x", "step {", "step", "step {}", 'step {"tag":5}', 'step {"rollback":{"from":1}}', "step null", "skipped", "skipped -1"]
+  const malformed = [
+    "log x event 0 1 0 0 1", "log", "log 1 event 0 1 0 0", "log 1 event 0 1 0 0 1.5", "released 0 1 0 0 y", "released", "vars 1 z", "vars",
+    "horizon 0 0", "breach 1 x", "skipped", "skipped -1", "step {", "step", "step {}", 'step {"tag":5}', 'step {"rollback":{"from":1}}',
+    "step null",
+  ]
   for (const push of malformed) {
     const { client, socket } = await greeted()
     /** @type {unknown[]} */
@@ -96,7 +102,11 @@ test("a push that does not read ends the client with its words, and what stands 
 })
 
 test("a reply that does not read ends the client, and whoever waits for it is told so", async () => {
-  for (const reply of ["toString", "__proto__ 1", "constructor", "hasOwnProperty 1", "horizon", "horizon 1 x 0", "var 1 z", "refused x", "names {", "names null", "nonsense"]) {
+  const unread = [
+    "toString", "__proto__ 1", "constructor", "hasOwnProperty 1", "horizon", "horizon 1 x 0", "var 1 z", "refused x", "names {",
+    "names null", "nonsense",
+  ]
+  for (const reply of unread) {
     const { client, socket } = await greeted({ ...GREETING, horizon: reply })
     await assert.rejects(client.horizon(), error => error instanceof Ended && error.message.includes(reply), reply)
     ended(client, socket, reply)
@@ -111,8 +121,12 @@ test("a reply that nobody waits for ends the client", async () => {
 })
 
 test("a greeting that is none ends the client", async () => {
-  for (const answers of [{ names: "taken 1", program: "program 1 abc" }, { names: GREETING.names, program: "none 0" }, { names: "none 0", program: "none 0" },
-    { names: GREETING.names, program: "program 1" }, { names: 'names {"inputs":5}', program: "program 1 abc" }]) {
+  const { names, program } = GREETING
+  const none = "none 0"
+  for (const answers of [
+    { names: "taken 1", program }, { names, program: none }, { names: none, program: none }, { names, program: "program 1" },
+    { names: 'names {"inputs":5}', program },
+  ]) {
     const { client, socket } = await greeted(answers)
     ended(client, socket, "the host")
     await assert.rejects(client.ready, Ended)
@@ -138,7 +152,7 @@ test("what a callback throws is uncaught, and all that the host says is read", a
   client.close()
 })
 
-test("pauses grow while connections are closed behind their greeting, and begin anew behind one that lasted or brought a record", async t => {
+test("pauses grow while connections are closed behind their greeting, until one lasted or brought a record", async t => {
   /** @type {number[]} */
   const pauses = []
   let now = 0
