@@ -165,6 +165,7 @@ fn make_pages(
         seen: Seen::nothing(u64::from(options.clients), u64::from(form.most_records())),
         answered: 0,
         unauthorized: 0,
+        guesses: 0,
         forbidden: 0,
         upgraded: None,
     })
