@@ -1,8 +1,10 @@
 """Cases of `.ci/host` on how a host starts: what keeps it from that, who may send what, and which pages may read what it answers."""
 
+import collections
 import errno
 import os
 import re
+import resource
 import socket
 import subprocess
 import tempfile
@@ -106,6 +108,29 @@ def tokens_of_peers():
             told = [line for line in host.printed(1).splitlines() if line.startswith(str(file))]
             why = "no --peer has this name, so its token is not used"
             same(told, [f"{file}: line {line}: {why}" for line in (2, 4, 5)], "lines of no peer")
+
+
+def little_memory():
+    """In an address space that is too small a host ends with its status, and tells why, also behind its line that it is ready."""
+    ends = collections.Counter()
+    with tempfile.TemporaryDirectory() as folder:
+        for space in range(8, 72):
+            def prepare():
+                resource.setrlimit(resource.RLIMIT_AS, (space << 19, space << 19))
+
+            more = ("--journal", Path(folder, f"{space}.journal"), "--peer", "localhost:1")
+            words = [hosting.PROGRAM, "host", TWICE, "--listen", f"{HOST}:0", "--until-input-ends", *more]
+            run = subprocess.run(words, stdin=subprocess.DEVNULL, capture_output=True, text=True, timeout=60, preexec_fn=prepare)
+            last = run.stderr.splitlines()[-2:]
+            if run.returncode == 6:
+                same(last[1:], ["cannot accept"], f"with {space}")
+                holds(last[0].startswith("the host can't go on: no thread for the "), f"with {space}: {run.stderr!r}")
+            elif run.returncode == 5:
+                same(last[-1:], ["no memory"], f"with {space}")
+            else:
+                same((run.returncode, last[-1:]), (0, ["standard input ended: the host ends"]), f"the status with {space}: {run.stderr!r}")
+            ends[run.returncode] += 1
+    holds(min(ends[status] for status in (0, 5, 6)) > 0, f"how they ended: {ends}")
 
 
 def refused_tokens():
@@ -233,4 +258,4 @@ def wrong_tokens():
             wait_for(counted, "the counts", 30)
 
 
-CASES = [refused_starts, no_files, tokens_of_peers, refused_tokens, journals, allowed_origins, started, wrong_tokens]
+CASES = [refused_starts, no_files, tokens_of_peers, little_memory, refused_tokens, journals, allowed_origins, started, wrong_tokens]
