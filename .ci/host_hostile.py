@@ -2,6 +2,7 @@
 and a peer that lies. What is measured is a count, or memory before and behind a flood."""
 
 import contextlib
+import re
 import select
 import socket
 import tempfile
@@ -232,6 +233,36 @@ def guesses():
         web.close()
 
 
+def guesses_over_http():
+    """A connection is closed behind the third of its requests that brought no token or a wrong one, whatever stands between them, also
+    where all come in one piece; and only then."""
+    with tempfile.NamedTemporaryFile() as tokens, Hosted("--tokens", written(tokens, b"secret *\nother 0\n")) as host:
+        def asked(token, path="/metrics", method="GET", *headers):
+            fields = (f"Host: {HOST}:{host.port}", *([f"Authorization: Bearer {token}"] if token else []), *headers)
+            return "".join(f"{line}\r\n" for line in (f"{method} {path} HTTP/1.1", *fields, "")).encode()
+
+        def statuses(*requests):
+            said = told_until_the_end(host, b"".join(requests))
+            same(said.count(b"connection: close\r\n"), 1, f"how often the end is told in {said[-300:]}")
+            return [int(it) for it in re.findall(rb"^HTTP/1.1 (\d+) ", said, re.M)]
+
+        upgrade = ("Upgrade: websocket", "Connection: Upgrade", "Sec-WebSocket-Key: dGhlIHNhbXBsZSBub25jZQ==", "Sec-WebSocket-Version: 13")
+        same(statuses(*[asked("a")] * 60), [401] * 3, "guesses in one piece")
+        same(statuses(*[asked(None)] * 3), [401] * 3, "requests without a token")
+        among = [asked("a"), asked("secret", "/names.json"), asked(None, "/program.json"), asked("other", "/names.json"), asked(None, "/"),
+                 asked("a", "/names.json", "HEAD"), asked("secret")]
+        same(statuses(*among), [401, 200, 401, 200, 200, 401], "guesses among others")
+        at_ws = [asked(None, "/ws?token=a", "GET", *upgrade), asked("b", "/ws", "GET", *upgrade), asked("a"), asked("secret")]
+        same(statuses(*at_ws), [401] * 3, "guesses at /ws")
+        two = [asked("a"), asked("b"), *[asked("secret", "/none")] * 5, asked("secret", "/healthz", "GET", "Connection: close")]
+        same(statuses(*two), [401] * 2 + [404] * 5 + [200], "two guesses")
+
+        def counted():
+            return b"\nwarpd_http_unauthorized_total 14\n" in hosting.get(host.address, "/metrics", "Authorization: Bearer secret")[2]
+
+        wait_for(counted, "the count", 30)
+
+
 def cross_site():
     """What a browser says that it asks for a page of another site is refused, unless that page's origin is allowed."""
     upgrade = ("Upgrade: websocket", "Connection: Upgrade", "Sec-WebSocket-Key: dGhlIHNhbXBsZSBub25jZQ==", "Sec-WebSocket-Version: 13")
@@ -247,4 +278,4 @@ def cross_site():
         holds(hosting.http(host.address, old.encode()).split(b" ")[1] == b"400", "an upgrade over HTTP/1.0 is 400")
 
 
-CASES = [web_floods, newest_ping, neither_lines_nor_requests, lying_peer, tokens_behind_programs, guesses, cross_site]
+CASES = [web_floods, newest_ping, neither_lines_nor_requests, lying_peer, tokens_behind_programs, guesses, guesses_over_http, cross_site]

@@ -1,8 +1,10 @@
 """Cases of `.ci/host` on how a host starts: what keeps it from that, who may send what, and which pages may read what it answers."""
 
+import collections
 import errno
 import os
 import re
+import resource
 import socket
 import subprocess
 import tempfile
@@ -60,6 +62,75 @@ def refused_starts():
                   error=f"listen {HOST}:{port}: {in_system_words(errno.EADDRINUSE)}\ncannot listen\n")
         ended("host", TWICE, "--listen", "203.0.113.1:7070", "--open", status=6,
               error=f"listen 203.0.113.1:7070: {in_system_words(errno.EADDRNOTAVAIL)}\ncannot listen\n")
+
+
+def no_files():
+    """What is neither a file nor a folder is not opened, so that no start waits for who writes to a pipe; but a descriptor that the program
+    was given is read."""
+    with tempfile.TemporaryDirectory() as folder:
+        pipe, link, why = Path(folder, "pipe"), Path(folder, "link"), "it is no regular file"
+        os.mkfifo(pipe, 0o600)
+        link.symlink_to(pipe)
+        for path in (pipe, link, "/dev/zero"):
+            ended("host", path, status=4, error=f"{path}: {why}\ncannot read the program\n")
+            ended("check", path, status=4, error=f"cannot read the program\n{why}\n")
+            for which, words in (("", "--tokens"), (" of peers", "--peer-tokens")):
+                ended("host", TWICE, words, path, status=4, error=f"{path}: {why}\ncannot read the tokens{which}\n")
+        program = hosting.ROOT / "examples" / "twice.json"
+        told = subprocess.run([hosting.PROGRAM, "check", program], capture_output=True, text=True, timeout=60, check=True).stdout
+        hosts = f"host {TWICE} --listen {HOST}:0 --until-input-ends"
+        for command, said in ((f'cat {program} | "$0" check /dev/stdin', told), (f'"$0" check /dev/stdin < {program}', told),
+                              (f'"$0" check <(cat {program})', told), (f'"$0" {hosts} --tokens <(echo "secret *")', None)):
+            words = ["bash", "-c", command, hosting.PROGRAM]
+            run = subprocess.run(words, stdin=subprocess.DEVNULL, capture_output=True, text=True, timeout=60)
+            same(run.returncode, 0, f"the status of {command}: {run.stderr}")
+            if said:
+                same(run.stdout, said, f"what {command} tells")
+            else:
+                holds("; tokens are wanted\n" in run.stderr, f"what {command} tells: {run.stderr!r}")
+
+
+def tokens_of_peers():
+    """Two lines for one peer are refused, and a line for no peer is told of."""
+    name, other = f"{HOST}:1", f"{HOST}:2"
+    peers = ("--peer", other, "--peer", name)
+    with tempfile.TemporaryDirectory() as folder:
+        file = Path(folder, "tokens")
+        file.touch(0o600)
+        for text, line in ((f"{name} a\n{name} b\n", 2), (f"# x y\n{name} a\n\n{other} a\nelsewhere:1 a\n{name} a first", 6),
+                           (f"{other} a first\n{other} a first\n", 2)):
+            file.write_text(text)
+            ended("host", TWICE, *peers, "--peer-tokens", file, status=3,
+                  error=f"{file}: line {line}: its peer has a line in front of it too\ntokens of peers refused at line {line}\n")
+        file.write_text(f"# {HOST}:3 x\n{HOST}:3 a\n{name} a\n{HOST}:10 a first\n{HOST}:3 b\n")
+        with Hosted(*peers, "--peer-tokens", file, remarks=["peer ", f"{file}: "]) as host:
+            wait_for(lambda: "\nstarted: " in host.printed(1), "the start")
+            told = [line for line in host.printed(1).splitlines() if line.startswith(str(file))]
+            why = "no --peer has this name, so its token is not used"
+            same(told, [f"{file}: line {line}: {why}" for line in (2, 4, 5)], "lines of no peer")
+
+
+def little_memory():
+    """In an address space that is too small a host ends with its status, and tells why, also behind its line that it is ready."""
+    ends = collections.Counter()
+    with tempfile.TemporaryDirectory() as folder:
+        for space in range(8, 72):
+            def prepare():
+                resource.setrlimit(resource.RLIMIT_AS, (space << 19, space << 19))
+
+            more = ("--journal", Path(folder, f"{space}.journal"), "--peer", "localhost:1")
+            words = [hosting.PROGRAM, "host", TWICE, "--listen", f"{HOST}:0", "--until-input-ends", *more]
+            run = subprocess.run(words, stdin=subprocess.DEVNULL, capture_output=True, text=True, timeout=60, preexec_fn=prepare)
+            last = run.stderr.splitlines()[-2:]
+            if run.returncode == 6:
+                same(last[1:], ["cannot accept"], f"with {space}")
+                holds(last[0].startswith("the host can't go on: no thread for the "), f"with {space}: {run.stderr!r}")
+            elif run.returncode == 5:
+                same(last[-1:], ["no memory"], f"with {space}")
+            else:
+                same((run.returncode, last[-1:]), (0, ["standard input ended: the host ends"]), f"the status with {space}: {run.stderr!r}")
+            ends[run.returncode] += 1
+    holds(min(ends[status] for status in (0, 5, 6)) > 0, f"how they ended: {ends}")
 
 
 def refused_tokens():
@@ -187,4 +258,4 @@ def wrong_tokens():
             wait_for(counted, "the counts", 30)
 
 
-CASES = [refused_starts, refused_tokens, journals, allowed_origins, started, wrong_tokens]
+CASES = [refused_starts, no_files, tokens_of_peers, little_memory, refused_tokens, journals, allowed_origins, started, wrong_tokens]

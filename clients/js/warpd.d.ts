@@ -101,7 +101,7 @@ export class Refused extends Error {
   readonly line: string
 }
 
-/** The client was closed, or the host says what is no reply: what was sent last may have been taken or not. */
+/** The client was closed, or the host says what does not read: what was sent last may have been taken or not. */
 export class Ended extends Error {}
 
 /** What the numbers of a program stand for: a number is the place in its list. */

@@ -30,6 +30,8 @@ const MEANINGS = {
 
 const FIRST_PAUSE = 100
 const LONGEST_PAUSE = 5_000
+// A connection that lasted so long behind its greeting, or brought a record, is followed by the first pause again.
+const LASTED = 1_000
 // A host takes messages of 16 KiB at most.
 const MOST_MESSAGE = 16_000
 // So many lines of a log are asked for before their answers are awaited.
@@ -83,11 +85,25 @@ export class Refused extends Error {
   }
 }
 
-/** The client was closed, or the host says what is no reply: what was sent last may have been taken or not. */
+/** The client was closed, or the host says what does not read: what was sent last may have been taken or not. */
 export class Ended extends Error {
   constructor(message) {
     super(message)
     this.name = "Ended"
+  }
+}
+
+/** The end that an error means which came of reading this. */
+const endBy = (error, text) => error instanceof Ended ? error : new Ended(`the host says what does not read: "${text}": ${error.message}`)
+
+/** Calls back. What is thrown there is told as uncaught, and keeps nothing that the host says from being read. */
+function callBack(callback, value) {
+  try {
+    callback?.(value)
+  } catch (error) {
+    queueMicrotask(() => {
+      throw error
+    })
   }
 }
 
@@ -133,58 +149,65 @@ function whole(name, value, most, least = 0) {
 const tagIn = ({ time, micro = 0 } = {}) => `${whole("time", time, 15_625_000)} ${whole("micro", micro, 255)}`
 const valueIn = ({ value }) => whole("value", value, 2n ** 63n - 1n, -(2n ** 63n))
 
-const tagged = (time, micro) => ({ time: Number(time), micro: Number(micro) })
+// Numbers as lines spell them; what spells none is a SyntaxError.
+const spelled = (word, form) => {
+  if (!form.test(word)) throw new SyntaxError(`no number: ${word}`)
+  return word
+}
+const natural = word => Number(spelled(word, /^\d+$/))
+const integer = word => BigInt(spelled(word, /^-?\d+$/))
+
+const tagged = (time, micro) => ({ time: natural(time), micro: natural(micro) })
 
 function recordOf([kind, origin, time, micro, ...rest]) {
-  const record = { kind, origin: Number(origin), ...tagged(time, micro) }
-  if (kind === "event") return { ...record, input: Number(rest[0]), value: BigInt(rest[1]) }
-  if (kind === "announce") return { ...record, events: Number(rest[0]), withdrawn: Number(rest[1]) }
+  const record = { kind, origin: natural(origin), ...tagged(time, micro) }
+  if (kind === "event") return { ...record, input: natural(rest[0]), value: integer(rest[1]) }
+  if (kind === "announce") return { ...record, events: natural(rest[0]), withdrawn: natural(rest[1]) }
   return record
 }
 
 const READERS = {
-  taken: ([place]) => ({ place: Number(place), isNew: true }),
-  known: ([place]) => ({ place: Number(place), isNew: false }),
-  var: ([log, value]) => ({ log: Number(log), value: BigInt(value) }),
-  vars: ([log, ...values]) => ({ log: Number(log), values: values.map(BigInt) }),
-  outputs: ([log, count]) => ({ log: Number(log), count: Number(count) }),
-  released: ([log, count]) => ({ log: Number(log), count: Number(count) }),
-  releases: ([log, count, frozen]) => ({ log: Number(log), count: Number(count), frozen: frozen === "1" }),
-  lost: ([log, count]) => ({ log: Number(log), count: Number(count) }),
-  collected: ([log]) => ({ log: Number(log) }),
-  output: ([log, ...row]) => ({ log: Number(log), ...rowOf(row) }),
-  release: ([log, ...row]) => ({ log: Number(log), ...rowOf(row) }),
+  taken: ([place]) => ({ place: natural(place), isNew: true }),
+  known: ([place]) => ({ place: natural(place), isNew: false }),
+  var: ([log, value]) => ({ log: natural(log), value: integer(value) }),
+  vars: ([log, ...values]) => ({ log: natural(log), values: values.map(integer) }),
+  outputs: ([log, count]) => ({ log: natural(log), count: natural(count) }),
+  released: ([log, count]) => ({ log: natural(log), count: natural(count) }),
+  releases: ([log, count, frozen]) => ({ log: natural(log), count: natural(count), frozen: frozen === "1" }),
+  lost: ([log, count]) => ({ log: natural(log), count: natural(count) }),
+  collected: ([log]) => ({ log: natural(log) }),
+  output: ([log, ...row]) => ({ log: natural(log), ...rowOf(row) }),
+  release: ([log, ...row]) => ({ log: natural(log), ...rowOf(row) }),
   row: row => rowOf(row),
-  board: ([count, frozen]) => ({ count: Number(count), frozen: frozen === "1" }),
+  board: ([count, frozen]) => ({ count: natural(count), frozen: frozen === "1" }),
   none: () => null,
-  horizon: ([log, time, micro]) => ({ log: Number(log), ...tagged(time, micro) }),
-  breach: ([log, broken]) => ({ log: Number(log), broken: broken === "1" }),
-  log: ([log, ...record]) => ({ log: Number(log), record: recordOf(record) }),
-  watching: ([count]) => ({ count: Number(count) }),
-  program: ([version, fingerprint]) => ({ version: Number(version), fingerprint }),
+  horizon: ([log, time, micro]) => ({ log: natural(log), ...tagged(time, micro) }),
+  breach: ([log, broken]) => ({ log: natural(log), broken: broken === "1" }),
+  log: ([log, ...record]) => ({ log: natural(log), record: recordOf(record) }),
+  watching: ([count]) => ({ count: natural(count) }),
+  program: ([version, fingerprint]) => ({ version: natural(version), fingerprint }),
   may: words => ({ may: words.join(" ") }),
   counts: words => {
-    const [log, origin, events, withdrawn, ...last] = words.map(Number)
+    const [log, origin, events, withdrawn, ...last] = words.map(natural)
     return { log, origin, events, withdrawn, last: tagged(...last) }
   },
-  reached: ([log, origin, ...tag]) => ({ log: Number(log), origin: Number(origin), ...tagged(...tag) }),
+  reached: ([log, origin, ...tag]) => ({ log: natural(log), origin: natural(origin), ...tagged(...tag) }),
 }
 
 function rowOf([time, micro, output, value]) {
-  return { ...tagged(time, micro), output: Number(output), value: BigInt(value) }
+  return { ...tagged(time, micro), output: natural(output), value: integer(value) }
 }
 
 /** The value that a reply stands for: a `Refused` where it refuses, null for `none`. */
 export function replyOf(text, line) {
   const [word, ...words] = text.split(" ")
-  if (word === "refused") return new Refused(Number(words[0]), line)
+  if (word === "refused") return new Refused(natural(words[0]), line)
   if (word === "names") return new Names(JSON.parse(text.slice("names ".length)))
-  const read = READERS[word]
-  if (!read) throw new Ended(`no reply to "${line}": "${text}"`)
-  return read(words)
+  if (!Object.hasOwn(READERS, word)) throw new Ended(`no reply to "${line}": "${text}"`)
+  return READERS[word](words)
 }
 
-const valuesOf = values => Object.fromEntries(Object.entries(values).map(([name, value]) => [name, BigInt(value)]))
+const valuesOf = values => Object.fromEntries(Object.entries(values).map(([name, value]) => [name, integer(value)]))
 
 /**
  * A step, or a going back before steps, of its JSON: a value may have more digits than a number keeps. `to` is the last
@@ -195,27 +218,27 @@ function executedOf(text) {
   const { tag, rollback, given, due, changed, outputs, pending } = JSON.parse(text.replace(/":(-?\d+)/g, '":"$1"'))
   if (rollback) {
     const { from, to, again } = rollback
-    return { rollback: { from: tagged(...from), to: to && tagged(...to), again: Number(again) } }
+    return { rollback: { from: tagged(...from), to: to && tagged(...to), again: natural(again) } }
   }
   return {
     ...tagged(...tag),
     given: valuesOf(given),
-    due: due.map(({ target, value }) => ({ target, value: BigInt(value) })),
+    due: due.map(({ target, value }) => ({ target, value: integer(value) })),
     changed: valuesOf(changed),
     outputs: valuesOf(outputs),
-    pending: Number(pending),
+    pending: natural(pending),
   }
 }
 
 const PUSHES = {
-  log: ([place, ...record]) => ({ place: Number(place), record: recordOf(record) }),
-  released: ([index, ...row]) => ({ index: Number(index), ...rowOf(row) }),
+  log: ([place, ...record]) => ({ place: natural(place), record: recordOf(record) }),
+  released: ([index, ...row]) => ({ index: natural(index), ...rowOf(row) }),
   frozen: () => ({ frozen: true }),
   vars: READERS.vars,
   horizon: READERS.horizon,
-  breach: ([log, ...origins]) => ({ log: Number(log), origins: origins.map(Number) }),
+  breach: ([log, ...origins]) => ({ log: natural(log), origins: origins.map(natural) }),
   step: ([json]) => executedOf(json),
-  skipped: ([count]) => ({ skipped: Number(count) }),
+  skipped: ([count]) => ({ skipped: natural(count) }),
 }
 
 // Of these the newest push stands for those before it.
@@ -249,7 +272,7 @@ class Watch {
   push(value) {
     const at = value.place ?? value.index
     if (at !== undefined) this.next = at + 1
-    this.#callback?.(value)
+    callBack(this.#callback, value)
     const wanted = this.#wanted.shift()
     if (wanted) wanted({ value, done: false })
     else if (!this.#callback) this.#keep(value)
@@ -307,6 +330,9 @@ export class Client {
   #token
   #reconnect
   #pause = FIRST_PAUSE
+  /** When this connection was greeted, and whether it brought a record; null where it was not greeted yet. */
+  #greetedAt = null
+  #hasBrought = false
   #timer
   #isOpened = false
   #asked = new Queue()
@@ -362,7 +388,6 @@ export class Client {
   /** Says who it is, and asks for the names; then watches on from where it was, and sends again what was not answered. */
   #opened() {
     const socket = this.#socket
-    this.#pause = FIRST_PAUSE
     this.connections += 1
     const lines = ["names", "program"]
     if (this.#token !== undefined) lines.unshift(`token ${this.#token}`)
@@ -372,11 +397,14 @@ export class Client {
     this.#send(opening)
     Promise.all(opening.map(it => it.answer)).then(answers => {
       if (this.#socket === socket && this.state !== "closed") this.#greeted(...answers.slice(-2))
-    }, error => error instanceof Refused && this.#finish(error))
+    }).catch(error => this.#finish(error instanceof Refused ? error : endBy(error, "names, program")))
   }
 
   /** Goes on where it was, unless the host has another program than before. */
-  #greeted(names, { fingerprint }) {
+  #greeted(names, program) {
+    const fingerprint = program?.fingerprint
+    if (!(names instanceof Names) || !fingerprint) throw new Ended("the host tells no names and program")
+    this.#greetedAt = performance.now()
     this.#fingerprint ??= fingerprint
     if (this.#fingerprint !== fingerprint) {
       return this.#finish(new Ended(`the host has another program now, ${fingerprint}: it had ${this.#fingerprint}`))
@@ -392,7 +420,7 @@ export class Client {
     this.#send(all)
     this.#turn("open")
     this.#isReady(this)
-    if (this.connections > 1) for (const callback of this.#reopened) callback()
+    if (this.connections > 1) for (const callback of this.#reopened) callBack(callback)
   }
 
   /** Sends lines, in as few messages as the host takes. */
@@ -412,6 +440,10 @@ export class Client {
     this.#isOpened = false
     if (this.state === "closed") return
     if (!this.#reconnect) return this.#finish(new Ended("the connection was lost"))
+    const hasLasted = this.#greetedAt !== null && performance.now() - this.#greetedAt >= LASTED
+    if (hasLasted || this.#hasBrought) this.#pause = FIRST_PAUSE
+    this.#greetedAt = null
+    this.#hasBrought = false
     this.#turn("connecting")
     this.#timer = setTimeout(() => this.#connect(), this.#pause)
     this.#pause = Math.min(2 * this.#pause, LONGEST_PAUSE)
@@ -420,7 +452,7 @@ export class Client {
   #turn(state) {
     if (this.state === state) return
     this.state = state
-    this.onstate?.(state)
+    callBack(it => this.onstate?.(it), state)
   }
 
   /** Calls back whenever a lost connection was made again, and the host told its names. */
@@ -447,6 +479,7 @@ export class Client {
 
   #hear(message) {
     for (const text of message.split("\n")) {
+      if (this.state === "closed") return
       if (text.startsWith("* ")) this.#pushed(text.slice(2))
       else if (text) this.#answered(text)
     }
@@ -457,21 +490,34 @@ export class Client {
     if (!asked) return this.#finish(new Ended(`a reply that nobody waits for: "${text}"`))
     try {
       const value = replyOf(text, asked.line)
+      this.#hasBrought ||= value?.isNew === true
       if (value instanceof Refused) asked.reject(value)
       else asked.resolve(value)
     } catch (error) {
-      asked.reject(error)
-      this.#finish(error)
+      const end = endBy(error, text)
+      asked.reject(end)
+      this.#finish(end)
     }
   }
 
   #pushed(text) {
     const [kind, ...words] = text.split(" ")
     // `gone slow` comes before the host closes: the connection is lost then, and made again.
-    if (!(kind in PUSHES)) return
-    const value = PUSHES[kind](words)
+    if (!Object.hasOwn(PUSHES, kind)) return
+    const value = this.#read(kind, words, text)
+    if (!value) return
     if (kind === "vars") value.values.forEach((it, at) => (this.vars[this.names.vars[at] ?? at] = it))
+    this.#hasBrought ||= kind === "log" || kind === "released"
     this.#watches.get(SUBJECT_OF[kind] ?? kind)?.push(value)
+  }
+
+  /** What a push says; where it does not read, the client closes. */
+  #read(kind, words, text) {
+    try {
+      return PUSHES[kind](words)
+    } catch (error) {
+      this.#finish(endBy(error, `* ${text}`))
+    }
   }
 
   #put(line, watch) {

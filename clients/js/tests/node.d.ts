@@ -1,10 +1,12 @@
 // What the tests use of Node, and what they are handed, for `.ci/types`: no package that declares all of Node is wanted.
 
+type Fault = (new (...words: any[]) => Error) | ((error: any) => boolean)
+
 type Assert = {
   equal(got: unknown, wanted: unknown, message?: string): void
-  deepEqual(got: unknown, wanted: unknown): void
+  deepEqual(got: unknown, wanted: unknown, message?: string): void
   match(text: string, pattern: RegExp): void
-  rejects(promise: Promise<unknown>, wanted?: (new (...words: any[]) => Error) | ((error: any) => boolean)): Promise<void>
+  rejects(promise: Promise<unknown>, wanted?: Fault, message?: string): Promise<void>
 }
 
 /** What a case is handed, in Node and in browsers. */
@@ -26,10 +28,12 @@ interface Window {
   results: [string, string | null][]
 }
 
+declare function setImmediate(done: (value: unknown) => void): void
+
 declare const process: { env: Record<string, string | undefined> }
 
 declare module "node:assert/strict" {
-  const assert: Assert & { ok(value: unknown, message?: string): void }
+  const assert: Assert & { ok(value: unknown, message?: string): void; throws(body: () => unknown, wanted?: Fault, message?: string): void }
   export default assert
 }
 
@@ -72,6 +76,9 @@ declare module "node:path" {
 }
 
 declare module "node:test" {
-  export function test(name: string, body: () => unknown): void
+  export interface Tried {
+    mock: { method(of: object, name: string, instead: (...given: any[]) => unknown): void }
+  }
+  export function test(name: string, body: (tried: Tried) => unknown): void
   export function test(name: string, options: { timeout: number }, body: () => unknown): void
 }

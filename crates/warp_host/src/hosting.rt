@@ -82,12 +82,6 @@ impl From<AllocError> for HostFault {
     }
 }
 
-impl From<io::Error> for HostFault {
-    fn from(_failed: io::Error) -> HostFault {
-        HostFault::System
-    }
-}
-
 /// What a host serves beside its lines.
 #[derive(Drop)]
 pub struct Served {
@@ -165,21 +159,33 @@ fn make_pages(
         seen: Seen::nothing(u64::from(options.clients), u64::from(form.most_records())),
         answered: 0,
         unauthorized: 0,
+        guesses: 0,
         forbidden: 0,
         upgraded: None,
     })
 }
 
+/// The same, or that the system gives none of it, which is told.
+fn or_told<X: Eprint, T: Drop>(rt: &X, what: &str, given: io::Result<T>) -> Result<T, HostFault> {
+    match given {
+        Ok(given) => Ok(given),
+        Err(error) => {
+            operator::tell_not_given(rt, what, &error);
+            Err(HostFault::System)
+        }
+    }
+}
+
 /// What all clients share.
-fn make_common<'a, X: Clock + RandomSource>(
+fn make_common<'a, X: Clock + RandomSource + Eprint>(
     rt: &X,
     alloc: Global,
     post: Post<'a>,
     pages: Pages,
     form: Form,
 ) -> Result<Common<'a>, HostFault> {
-    let keys = RandomState::new(rt)?;
-    let now = rt.monotonic()?;
+    let keys = or_told(rt, "random numbers", RandomState::new(rt))?;
+    let now = or_told(rt, "time", rt.monotonic())?;
     let buffer = vec![in alloc; 0u8; READ]?;
     Ok(Common {
         alloc,
@@ -280,8 +286,10 @@ fn make_serving<'a, X: System>(rt: &X, start: Start<'a>) -> Result<(Serving<'a>,
         identity,
         options,
     } = start;
-    poll.registry()
-        .register(&mut listener, LISTENER, Interest::READABLE)?;
+    let registered = poll
+        .registry()
+        .register(&mut listener, LISTENER, Interest::READABLE);
+    or_told(rt, "events of its listener", registered)?;
     let alloc = common.alloc;
     let most_clients = begin(rt, &common, &options, &identity);
     let places = (options.clients as usize).saturating_add(options.peers.len());
@@ -391,16 +399,21 @@ where
 {
     let Shared { bells, durable } = shared;
     let Ok(running) = start_executor::<E, X, T, P>(scope, rt, executor, labels) else {
+        operator::tell_no_thread(rt, "the replica");
         return Err(HostFault::System);
     };
     let Ok(writing) = start_writing(scope, rt, writers) else {
+        operator::tell_no_thread(rt, "the journal");
         bells.end();
         running.join(rt);
         return Err(HostFault::System);
     };
     let served = match start_lookup(scope, rt, lookup) {
         Ok(()) => serve(rt, serving, events),
-        Err(fault) => Err(fault),
+        Err(fault) => {
+            operator::tell_no_thread(rt, "the names of peers");
+            Err(fault)
+        }
     };
     bells.end();
     running.join(rt);
@@ -433,9 +446,9 @@ struct Orders {
 }
 
 /// What the loop waits by, and what wakes it and the executor.
-fn make_bells<X: Net>(rt: &X) -> Result<(Poll, Bells), HostFault> {
-    let poll = Poll::new(rt)?;
-    let waker = Waker::new(poll.registry(), WAKER)?;
+fn make_bells<X: Net + Eprint>(rt: &X) -> Result<(Poll, Bells), HostFault> {
+    let poll = or_told(rt, "events", Poll::new(rt))?;
+    let waker = or_told(rt, "waker", Waker::new(poll.registry(), WAKER))?;
     Ok((poll, Bells::new(waker)))
 }
 

@@ -37,6 +37,8 @@ pub(crate) struct HttpClient {
     connection: Connection,
     /// The rights of the token that the upgrade brought, once the connection is upgraded.
     upgraded: Option<Option<Rights>>,
+    /// How many of its requests wanted a token, and brought none or a wrong one.
+    guesses: u32,
     /// How many bytes came behind the last answer, or since the connection began.
     unanswered: usize,
     /// When the last request was answered, or the connection began.
@@ -75,6 +77,7 @@ impl HttpClient {
         HttpClient {
             connection: Connection::new(alloc, keys, config),
             upgraded: None,
+            guesses: 0,
             unanswered: 0,
             answered: now,
             sent: now,
@@ -104,7 +107,9 @@ impl HttpClient {
     /// Answers what was received.
     fn advance(&mut self, pages: &mut Pages, now: Duration) {
         let before = pages.answered;
+        pages.guesses = self.guesses;
         self.connection.advance(pages);
+        self.guesses = pages.guesses;
         if pages.answered != before {
             self.answered = now;
             // What is left came with the last read, which completed a request.

@@ -3,7 +3,7 @@
 use crate::journal_faults::{FileFault, OpenFault};
 use crate::peer_news::PeerNews;
 use std::fmt;
-use std::io::Eprint;
+use std::io::{self, Eprint};
 use warp_hub::PeerEvent;
 
 /// What begins.
@@ -36,6 +36,18 @@ pub(crate) fn tell_start<X: Eprint>(rt: &X, clients: u32, wanted: u32, begun: Be
     } else {
         eprintln!(rt; "started: {clients} clients at a time; warpd {version}; {program}; {tokens}")
     };
+}
+
+/// Tells that the host ends since the system does not give it this, and what the system says.
+pub(crate) fn tell_not_given<X: Eprint>(rt: &X, what: &str, error: &io::Error) {
+    let _ = eprintln!(rt; "the host can't go on: the system gives no {what}: {error}");
+}
+
+/// Tells that the host ends since no thread could be started for this.
+pub(crate) fn tell_no_thread<X: Eprint>(rt: &X, what: &str) {
+    let _ = eprintln!(rt;
+        "the host can't go on: no thread for {what} could be started, for want of memory or of processes (ulimit -v, ulimit -u)"
+    );
 }
 
 /// Tells that so many connections were refused since there are as many clients as there may be.

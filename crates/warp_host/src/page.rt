@@ -5,7 +5,7 @@ use http::HeaderValue;
 /// What the page may do in a browser: its own style and script alone, told by their SHA-256, and connect to its host.
 const POLICY: &str = "\
 default-src 'none'; \
-script-src 'sha256-hTKDMdYebk7cN7i4QlKmBbmc7ffWFil7agvUri5rwGU='; \
+script-src 'sha256-KbkJvm5Lm12zY8fg+x2ir4jFOwalui8uD2TSJ8Nk2dc='; \
 style-src 'sha256-w6wrpSjQQo2ITNrYMfX6Z7+uynafgFVJ8u9XhCCqJFo='; \
 connect-src 'self'; \
 img-src data:; \
@@ -131,6 +131,7 @@ it was, the replica goes on from there) or more (timers and actions may lie behi
 }
 const FIRST_PAUSE = 100
 const LONGEST_PAUSE = 5_000
+const LASTED = 1_000
 const MOST_MESSAGE = 16_000
 class Queue {
 #items
@@ -175,6 +176,16 @@ super(message)
 this.name = "Ended"
 }
 }
+const endBy = (error, text) => error instanceof Ended ? error : new Ended(`the host says what does not read: "${text}": ${error.message}`)
+function callBack(callback, value) {
+try {
+callback?.(value)
+} catch (error) {
+queueMicrotask(() => {
+throw error
+})
+}
+}
 class Names {
 constructor({ vars = [], inputs = [], outputs = [] } = {}) {
 this.vars = vars
@@ -193,76 +204,81 @@ const at = names.indexOf(name)
 if (at < 0) throw new RangeError(`no ${kind} is called "${name}"; there are: ${names.join(", ")}`)
 return at
 }
-const tagged = (time, micro) => ({ time: Number(time), micro: Number(micro) })
+const spelled = (word, form) => {
+if (!form.test(word)) throw new SyntaxError(`no number: ${word}`)
+return word
+}
+const natural = word => Number(spelled(word, /^\d+$/))
+const integer = word => BigInt(spelled(word, /^-?\d+$/))
+const tagged = (time, micro) => ({ time: natural(time), micro: natural(micro) })
 function recordOf([kind, origin, time, micro, ...rest]) {
-const record = { kind, origin: Number(origin), ...tagged(time, micro) }
-if (kind === "event") return { ...record, input: Number(rest[0]), value: BigInt(rest[1]) }
-if (kind === "announce") return { ...record, events: Number(rest[0]), withdrawn: Number(rest[1]) }
+const record = { kind, origin: natural(origin), ...tagged(time, micro) }
+if (kind === "event") return { ...record, input: natural(rest[0]), value: integer(rest[1]) }
+if (kind === "announce") return { ...record, events: natural(rest[0]), withdrawn: natural(rest[1]) }
 return record
 }
 const READERS = {
-taken: ([place]) => ({ place: Number(place), isNew: true }),
-known: ([place]) => ({ place: Number(place), isNew: false }),
-var: ([log, value]) => ({ log: Number(log), value: BigInt(value) }),
-vars: ([log, ...values]) => ({ log: Number(log), values: values.map(BigInt) }),
-outputs: ([log, count]) => ({ log: Number(log), count: Number(count) }),
-released: ([log, count]) => ({ log: Number(log), count: Number(count) }),
-releases: ([log, count, frozen]) => ({ log: Number(log), count: Number(count), frozen: frozen === "1" }),
-lost: ([log, count]) => ({ log: Number(log), count: Number(count) }),
-collected: ([log]) => ({ log: Number(log) }),
-output: ([log, ...row]) => ({ log: Number(log), ...rowOf(row) }),
-release: ([log, ...row]) => ({ log: Number(log), ...rowOf(row) }),
+taken: ([place]) => ({ place: natural(place), isNew: true }),
+known: ([place]) => ({ place: natural(place), isNew: false }),
+var: ([log, value]) => ({ log: natural(log), value: integer(value) }),
+vars: ([log, ...values]) => ({ log: natural(log), values: values.map(integer) }),
+outputs: ([log, count]) => ({ log: natural(log), count: natural(count) }),
+released: ([log, count]) => ({ log: natural(log), count: natural(count) }),
+releases: ([log, count, frozen]) => ({ log: natural(log), count: natural(count), frozen: frozen === "1" }),
+lost: ([log, count]) => ({ log: natural(log), count: natural(count) }),
+collected: ([log]) => ({ log: natural(log) }),
+output: ([log, ...row]) => ({ log: natural(log), ...rowOf(row) }),
+release: ([log, ...row]) => ({ log: natural(log), ...rowOf(row) }),
 row: row => rowOf(row),
-board: ([count, frozen]) => ({ count: Number(count), frozen: frozen === "1" }),
+board: ([count, frozen]) => ({ count: natural(count), frozen: frozen === "1" }),
 none: () => null,
-horizon: ([log, time, micro]) => ({ log: Number(log), ...tagged(time, micro) }),
-breach: ([log, broken]) => ({ log: Number(log), broken: broken === "1" }),
-log: ([log, ...record]) => ({ log: Number(log), record: recordOf(record) }),
-watching: ([count]) => ({ count: Number(count) }),
-program: ([version, fingerprint]) => ({ version: Number(version), fingerprint }),
+horizon: ([log, time, micro]) => ({ log: natural(log), ...tagged(time, micro) }),
+breach: ([log, broken]) => ({ log: natural(log), broken: broken === "1" }),
+log: ([log, ...record]) => ({ log: natural(log), record: recordOf(record) }),
+watching: ([count]) => ({ count: natural(count) }),
+program: ([version, fingerprint]) => ({ version: natural(version), fingerprint }),
 may: words => ({ may: words.join(" ") }),
 counts: words => {
-const [log, origin, events, withdrawn, ...last] = words.map(Number)
+const [log, origin, events, withdrawn, ...last] = words.map(natural)
 return { log, origin, events, withdrawn, last: tagged(...last) }
 },
-reached: ([log, origin, ...tag]) => ({ log: Number(log), origin: Number(origin), ...tagged(...tag) }),
+reached: ([log, origin, ...tag]) => ({ log: natural(log), origin: natural(origin), ...tagged(...tag) }),
 }
 function rowOf([time, micro, output, value]) {
-return { ...tagged(time, micro), output: Number(output), value: BigInt(value) }
+return { ...tagged(time, micro), output: natural(output), value: integer(value) }
 }
 function replyOf(text, line) {
 const [word, ...words] = text.split(" ")
-if (word === "refused") return new Refused(Number(words[0]), line)
+if (word === "refused") return new Refused(natural(words[0]), line)
 if (word === "names") return new Names(JSON.parse(text.slice("names ".length)))
-const read = READERS[word]
-if (!read) throw new Ended(`no reply to "${line}": "${text}"`)
-return read(words)
+if (!Object.hasOwn(READERS, word)) throw new Ended(`no reply to "${line}": "${text}"`)
+return READERS[word](words)
 }
-const valuesOf = values => Object.fromEntries(Object.entries(values).map(([name, value]) => [name, BigInt(value)]))
+const valuesOf = values => Object.fromEntries(Object.entries(values).map(([name, value]) => [name, integer(value)]))
 function executedOf(text) {
 const { tag, rollback, given, due, changed, outputs, pending } = JSON.parse(text.replace(/":(-?\d+)/g, '":"$1"'))
 if (rollback) {
 const { from, to, again } = rollback
-return { rollback: { from: tagged(...from), to: to && tagged(...to), again: Number(again) } }
+return { rollback: { from: tagged(...from), to: to && tagged(...to), again: natural(again) } }
 }
 return {
 ...tagged(...tag),
 given: valuesOf(given),
-due: due.map(({ target, value }) => ({ target, value: BigInt(value) })),
+due: due.map(({ target, value }) => ({ target, value: integer(value) })),
 changed: valuesOf(changed),
 outputs: valuesOf(outputs),
-pending: Number(pending),
+pending: natural(pending),
 }
 }
 const PUSHES = {
-log: ([place, ...record]) => ({ place: Number(place), record: recordOf(record) }),
-released: ([index, ...row]) => ({ index: Number(index), ...rowOf(row) }),
+log: ([place, ...record]) => ({ place: natural(place), record: recordOf(record) }),
+released: ([index, ...row]) => ({ index: natural(index), ...rowOf(row) }),
 frozen: () => ({ frozen: true }),
 vars: READERS.vars,
 horizon: READERS.horizon,
-breach: ([log, ...origins]) => ({ log: Number(log), origins: origins.map(Number) }),
+breach: ([log, ...origins]) => ({ log: natural(log), origins: origins.map(natural) }),
 step: ([json]) => executedOf(json),
-skipped: ([count]) => ({ skipped: Number(count) }),
+skipped: ([count]) => ({ skipped: natural(count) }),
 }
 const STATES = new Set(["vars", "horizon", "breach"])
 const SUBJECT_OF = { frozen: "released", step: "steps", skipped: "steps" }
@@ -285,7 +301,7 @@ return this.next === null ? `watch ${this.what}` : `watch ${this.what} ${this.ne
 push(value) {
 const at = value.place ?? value.index
 if (at !== undefined) this.next = at + 1
-this.#callback?.(value)
+callBack(this.#callback, value)
 const wanted = this.#wanted.shift()
 if (wanted) wanted({ value, done: false })
 else if (!this.#callback) this.#keep(value)
@@ -331,6 +347,8 @@ class Client {
 #token
 #reconnect
 #pause = FIRST_PAUSE
+#greetedAt = null
+#hasBrought = false
 #timer
 #isOpened = false
 #asked = new Queue()
@@ -369,7 +387,6 @@ socket.onerror = () => {}
 }
 #opened() {
 const socket = this.#socket
-this.#pause = FIRST_PAUSE
 this.connections += 1
 const lines = ["names", "program"]
 if (this.#token !== undefined) lines.unshift(`token ${this.#token}`)
@@ -379,9 +396,12 @@ this.#asked = new Queue([...opening, ...this.#asked.take().filter(it => !it.isOf
 this.#send(opening)
 Promise.all(opening.map(it => it.answer)).then(answers => {
 if (this.#socket === socket && this.state !== "closed") this.#greeted(...answers.slice(-2))
-}, error => error instanceof Refused && this.#finish(error))
+}).catch(error => this.#finish(error instanceof Refused ? error : endBy(error, "names, program")))
 }
-#greeted(names, { fingerprint }) {
+#greeted(names, program) {
+const fingerprint = program?.fingerprint
+if (!(names instanceof Names) || !fingerprint) throw new Ended("the host tells no names and program")
+this.#greetedAt = performance.now()
 this.#fingerprint ??= fingerprint
 if (this.#fingerprint !== fingerprint) {
 return this.#finish(new Ended(`the host has another program now, ${fingerprint}: it had ${this.#fingerprint}`))
@@ -397,7 +417,7 @@ this.#isOpened = true
 this.#send(all)
 this.#turn("open")
 this.#isReady(this)
-if (this.connections > 1) for (const callback of this.#reopened) callback()
+if (this.connections > 1) for (const callback of this.#reopened) callBack(callback)
 }
 #send(asked) {
 let text = ""
@@ -414,6 +434,10 @@ if (text) this.#socket.send(text)
 this.#isOpened = false
 if (this.state === "closed") return
 if (!this.#reconnect) return this.#finish(new Ended("the connection was lost"))
+const hasLasted = this.#greetedAt !== null && performance.now() - this.#greetedAt >= LASTED
+if (hasLasted || this.#hasBrought) this.#pause = FIRST_PAUSE
+this.#greetedAt = null
+this.#hasBrought = false
 this.#turn("connecting")
 this.#timer = setTimeout(() => this.#connect(), this.#pause)
 this.#pause = Math.min(2 * this.#pause, LONGEST_PAUSE)
@@ -421,7 +445,7 @@ this.#pause = Math.min(2 * this.#pause, LONGEST_PAUSE)
 #turn(state) {
 if (this.state === state) return
 this.state = state
-this.onstate?.(state)
+callBack(it => this.onstate?.(it), state)
 }
 onReopened(callback) {
 this.#reopened.add(callback)
@@ -442,6 +466,7 @@ this.#socket.close()
 }
 #hear(message) {
 for (const text of message.split("\n")) {
+if (this.state === "closed") return
 if (text.startsWith("* ")) this.#pushed(text.slice(2))
 else if (text) this.#answered(text)
 }
@@ -451,19 +476,30 @@ const asked = this.#asked.shift()
 if (!asked) return this.#finish(new Ended(`a reply that nobody waits for: "${text}"`))
 try {
 const value = replyOf(text, asked.line)
+this.#hasBrought ||= value?.isNew === true
 if (value instanceof Refused) asked.reject(value)
 else asked.resolve(value)
 } catch (error) {
-asked.reject(error)
-this.#finish(error)
+const end = endBy(error, text)
+asked.reject(end)
+this.#finish(end)
 }
 }
 #pushed(text) {
 const [kind, ...words] = text.split(" ")
-if (!(kind in PUSHES)) return
-const value = PUSHES[kind](words)
+if (!Object.hasOwn(PUSHES, kind)) return
+const value = this.#read(kind, words, text)
+if (!value) return
 if (kind === "vars") value.values.forEach((it, at) => (this.vars[this.names.vars[at] ?? at] = it))
+this.#hasBrought ||= kind === "log" || kind === "released"
 this.#watches.get(SUBJECT_OF[kind] ?? kind)?.push(value)
+}
+#read(kind, words, text) {
+try {
+return PUSHES[kind](words)
+} catch (error) {
+this.#finish(endBy(error, `* ${text}`))
+}
 }
 #put(line, watch) {
 if (line.includes("\n")) return Promise.reject(new RangeError("more than one line"))

@@ -25,6 +25,9 @@ const UNAUTHORIZED: u16 = 401;
 /// The status of an answer to a request that may not reach the host.
 const FORBIDDEN: u16 = 403;
 
+/// Behind so many requests that want a token a connection is closed.
+const MOST_GUESSES: u32 = 3;
+
 /// Answers requests.
 #[derive(Drop)]
 pub(crate) struct Pages {
@@ -38,6 +41,8 @@ pub(crate) struct Pages {
     pub(crate) answered: u64,
     /// How many of them wanted a token, and brought none or a wrong one.
     pub(crate) unauthorized: u64,
+    /// How many of those of the connection that is served wanted a token, and brought none or a wrong one.
+    pub(crate) guesses: u32,
     /// How many of them were of a page, or to a name, that is not allowed.
     pub(crate) forbidden: u64,
     /// The rights of a connection that was just upgraded: those of the token that it brought, if it brought one.
@@ -123,6 +128,14 @@ fn add_last(
     Ok(Answered::Plain)
 }
 
+/// Has the connection close behind an answer.
+fn add_close(response: &mut Response) -> Result<(), AllocError> {
+    response.add_header(
+        HeaderName::from_static("connection"),
+        HeaderValue::from_static("close"),
+    )
+}
+
 /// Fills the answer that a request is refused so.
 fn refuse(response: &mut Response, status: StatusCode) -> Answered {
     response.status = status;
@@ -194,6 +207,7 @@ impl Pages {
     fn count(&mut self, status: u16) {
         if status == UNAUTHORIZED {
             self.unauthorized = self.unauthorized.wrapping_add(1);
+            self.guesses = self.guesses.saturating_add(1);
         }
         if status == FORBIDDEN {
             self.forbidden = self.forbidden.wrapping_add(1);
@@ -330,6 +344,20 @@ impl Pages {
         }
         self.answer(place, request, response)
     }
+
+    /// Fills the answer to a request, and closes its connection behind the last guess that it may have.
+    fn serve_or_close(
+        &self,
+        request: &Request<Bytes>,
+        response: &mut Response,
+    ) -> Result<Answered, AllocError> {
+        let answered = self.serve(request, response)?;
+        let is_guess = response.status.as_u16() == UNAUTHORIZED;
+        if is_guess && self.guesses >= MOST_GUESSES - 1 {
+            add_close(response)?;
+        }
+        Ok(answered)
+    }
 }
 
 /// Whether a browser says that a page of another site asks.
@@ -381,7 +409,7 @@ impl Service for Pages {
         request: &Request<Bytes>,
         response: &mut Response,
     ) -> Result<(), AllocError> {
-        match self.serve(request, response) {
+        match self.serve_or_close(request, response) {
             Ok(answered) => {
                 self.answered = self.answered.wrapping_add(1);
                 self.count(response.status.as_u16());

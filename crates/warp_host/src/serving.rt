@@ -104,7 +104,8 @@ impl<'a> Serving<'a> {
     pub(crate) fn run<X: System>(&mut self, rt: &X, events: &mut Events) -> Result<(), Gone> {
         for _ in rt.forever() {
             let timeout = self.timeout();
-            if self.poll.poll(events, Some(timeout)).is_err() {
+            if let Err(error) = self.poll.poll(events, Some(timeout)) {
+                operator::tell_not_given(rt, "events", &error);
                 return Err(Gone);
             }
             self.bells.loop_wakes();

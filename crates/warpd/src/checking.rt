@@ -7,7 +7,7 @@ ghost use Rattle.warp_prog.specs.Load.{IsLoaded, IsRefused};
 ghost use Rattle.warp_prog.specs.Reading.{longest_file};
 ghost use Rattle.warpd.specs.Outcome.{IsFrontOf, IsNone, IsTold, IsToldOf, account_options, refused_outcome};
 
-use crate::file_bytes::{first_bytes, without_file};
+use crate::file_bytes::{NO_FILE, first_bytes, is_no_file, without_file};
 use crate::outcome::Outcome;
 use crate::program_file::{ENOUGH, TWICE, refused};
 use std::alloc::{AllocError, Global};
@@ -20,8 +20,8 @@ use warp_prog::{
 use warp_step::Program;
 use warp_words::CheckOptions;
 
-/// What is told of the program of this name. Where its file is refused, `remark` gets where and why; else it gets the
-/// warnings that are asked for.
+/// What is told of the program of this name. Where its file is refused, `remark` gets where and why, and what is no file
+/// it names so; else it gets the warnings that are asked for.
 pub(crate) fn account_of<F: Files>(
     files: &F,
     alloc: Global,
@@ -34,6 +34,11 @@ pub(crate) fn account_of<F: Files>(
 {
     if name == "builtin:twice" {
         return built_in_account(alloc, options);
+    }
+    if is_no_file(files, name) {
+        add_remark(remark, String::from_str(alloc, NO_FILE));
+        add_remark(remark, String::from_str(alloc, "\n"));
+        return Err(Outcome::NoProgram);
     }
     match fs::open(files, name) {
         Ok(file) => file_account(alloc, file, options, remark),

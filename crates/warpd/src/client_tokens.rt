@@ -64,7 +64,7 @@ fn strange_line<X: Eprint>(rt: &X, file: &TokenText, origins: u32) -> Option<u32
 }
 
 /// Whether a line says nothing.
-fn is_silent(line: &[u8]) -> bool {
+pub(crate) fn is_silent(line: &[u8]) -> bool {
     line.is_empty() || line.starts_with(b"#")
 }
 

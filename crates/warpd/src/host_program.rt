@@ -6,7 +6,7 @@ ghost use Rattle.warp_prog.specs.declared.error.LoadError.{LoadError};
 ghost use Rattle.warp_step.specs.Twice.{twice};
 ghost use Rattle.warpd.specs.Outcome.{IsFrontOf, IsNamed, IsNone, refused_outcome};
 
-use crate::file_bytes::{first_bytes, without_file};
+use crate::file_bytes::{NO_FILE, first_bytes, is_no_file, without_file};
 use crate::labelled::names_for_a_trace;
 use crate::outcome::Outcome;
 use crate::program_file::{ENOUGH, TWICE, built_in, refused};
@@ -53,6 +53,10 @@ pub(crate) fn hosted_program<X: Files + Eprint>(
 {
     if name == "builtin:twice" {
         return built_in_hosted(alloc);
+    }
+    if is_no_file(rt, name) {
+        tell_of_file(rt, name, NO_FILE);
+        return Err(Outcome::NoProgram);
     }
     match fs::open(rt, name) {
         Ok(file) => file_hosted(rt, alloc, name, file),

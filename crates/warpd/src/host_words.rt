@@ -5,6 +5,8 @@ ghost use Rattle.std.specs.Option.{is_some};
 ghost use Rattle.warp_host.specs.Listening.{MayListen};
 ghost use Rattle.warpd.specs.Outcome.{KeepsFromHosting};
 
+use crate::client_tokens::is_silent;
+use crate::file_bytes::{NO_FILE, is_no_file};
 use crate::origins::{is_address, is_origin};
 use crate::outcome::{Outcome, TokenFile};
 use crate::telling::{tell_file, tell_line, tell_of_file, tell_peers, tell_shown, tell_word};
@@ -76,7 +78,8 @@ fn address_of<X: Eprint>(rt: &X, word: Option<&str>) -> Result<SocketAddr, Outco
     }
 }
 
-/// All bytes of a file of tokens, which others may neither read nor write.
+/// All bytes of a file of tokens, which others may neither read nor write. What is no file is not opened, so that the
+/// start waits for nobody.
 fn token_bytes<X: Files + Eprint>(
     rt: &X,
     alloc: Global,
@@ -85,6 +88,10 @@ fn token_bytes<X: Files + Eprint>(
 ) -> Result<Vec<u8>, Outcome>
     ensures { IfErr result KeepsFromHosting }
 {
+    if is_no_file(rt, name) {
+        tell_of_file(rt, name, NO_FILE);
+        return Err(Outcome::NoTokens(which));
+    }
     match fs::open(rt, name) {
         Ok(file) => file_bytes(rt, alloc, name, which, file),
         Err(error) => {
@@ -166,12 +173,73 @@ fn bad_peer_line(text: &[u8]) -> Option<u64> {
     let mut number = 0u64;
     for line in text.split(|byte| *byte == b'\n') {
         number = number.saturating_add(1);
-        let is_silent = line.is_empty() || line[0] == b'#';
-        if !is_silent && peer_token(line).is_none() {
+        if !is_silent(line) && peer_token(line).is_none() {
             return Some(number);
         }
     }
     None
+}
+
+/// The line, from 1, that is the second of this peer in the peers' tokens, if one is.
+fn second_line_of(text: &[u8], peer: &str) -> Option<u64> {
+    let mut number = 0u64;
+    let mut has_one = false;
+    for line in text.split(|byte| *byte == b'\n') {
+        number = number.saturating_add(1);
+        let is_its = match peer_token(line) {
+            Some((name, _, _)) => name == peer.as_bytes(),
+            None => false,
+        };
+        if is_its && has_one {
+            return Some(number);
+        }
+        has_one |= is_its;
+    }
+    None
+}
+
+/// The line, from 1, of the peers' tokens that is refused, if one is, and why.
+fn refused_peer_line(text: &[u8], peers: &[&str]) -> Option<(u64, &'static str)> {
+    if let Some(line) = bad_peer_line(text) {
+        return Some((line, "neither HOST:PORT TOKEN nor HOST:PORT TOKEN first"));
+    }
+    for peer in peers {
+        if let Some(line) = second_line_of(text, *peer) {
+            return Some((line, "its peer has a line in front of it too"));
+        }
+    }
+    None
+}
+
+/// Whether one of these peers has this name.
+fn is_peer(peers: &[&str], name: &[u8]) -> bool {
+    for peer in peers {
+        if peer.as_bytes() == name {
+            return true;
+        }
+    }
+    false
+}
+
+/// Tells of each line of the peers' tokens that is of none of these peers: its token is said to nobody.
+fn tell_of_no_peer<X: Eprint>(rt: &X, path: &str, text: &[u8], peers: &[&str]) {
+    let mut number = 0u64;
+    for line in text.split(|byte| *byte == b'\n') {
+        number = number.saturating_add(1);
+        if is_silent(line) {
+            continue;
+        }
+        if let Some((name, _, _)) = peer_token(line) {
+            if !is_peer(peers, name) {
+                tell_line(
+                    rt,
+                    path,
+                    number,
+                    "no --peer has this name, so its token is not used",
+                );
+            }
+        }
+    }
 }
 
 /// The token of this peer in the peers' tokens, if it has one.
@@ -268,15 +336,12 @@ fn peers_with_tokens<X: Files + Eprint>(
         Some(file) => file.text,
         None => Vec::new(alloc),
     };
-    if let Some(line) = bad_peer_line(&text) {
-        tell_line(
-            rt,
-            job.peer_tokens.unwrap_or(""),
-            line,
-            "neither HOST:PORT TOKEN nor HOST:PORT TOKEN first",
-        );
+    let path = job.peer_tokens.unwrap_or("");
+    if let Some((line, why)) = refused_peer_line(&text, &job.peers) {
+        tell_line(rt, path, line, why);
         return Err(Outcome::BadTokens(TokenFile::Peers, line));
     }
+    tell_of_no_peer(rt, path, &text, &job.peers);
     or_memory(peers_of(alloc, &job.peers, &text))
 }
 
