@@ -1,5 +1,5 @@
-"""The cases of `.ci/journal` over where a journal stands: other names of one file, a lock that is gone, and a file that is removed, renamed, cut
-short or replaced while a host writes it."""
+"""The cases of `.ci/journal` over where a journal stands: other names of one file, a lock that is gone, what stands beside it, and a file
+that is removed, renamed, cut short, written to or replaced while a host writes it."""
 
 import os
 import subprocess
@@ -11,7 +11,7 @@ from disks import is_silent
 from journals import Room, fill, in_use, remarks, renewed
 from loopback import holds, same, wait_for
 
-GONE, SHORT = "it was removed, renamed or replaced", "it was cut short"
+GONE, SHORT, LONG = "it was removed, renamed or replaced", "it was cut short", "another wrote to it"
 ANOTHER = "journal: it can't be written anew: another file stands under its name"
 
 
@@ -58,10 +58,15 @@ def empty(file):
     file.write_bytes(b"")
 
 
+def written_to(file):
+    with file.open("ab") as it:
+        it.write(b"event 0 5000 0 0 1\n")
+
+
 def moved():
-    """A journal that is removed, renamed or cut short is a disk that fails: it is told within some seconds, also where nothing is sent, and
-    written anew from the log; with `always` nothing is told that is in no file of that name."""
-    for how, why in ((remove, GONE), (rename, GONE), (cut_short, SHORT), (empty, SHORT)):
+    """A journal that is removed, renamed, cut short or written to by another is a disk that fails: it is told within some seconds, also
+    where nothing is sent, and written anew from the log; with `always` nothing is told that is in no file of that name."""
+    for how, why in ((remove, GONE), (rename, GONE), (cut_short, SHORT), (empty, SHORT), (written_to, LONG)):
         for words in ((), ("--sync", "10"), ("--sync", "never")):
             with Room() as room:
                 host = room.host(*words)
@@ -108,6 +113,66 @@ def replaced():
         room.holds_log(sent)
 
 
+def permissions():
+    """A journal that is written anew may be read and written by those who might before, whatever stands under its name by then."""
+    with Room() as room:
+        with room.host() as host:
+            sent = fill(host, 1)
+        room.file.chmod(0o640)
+        other = Path(room.folder.name, "other")
+        host = room.host()
+        try:
+            for count in range(2):
+                other.write_bytes(b"what somebody put there\n")
+                other.chmod(0o666)
+                if count:
+                    other.rename(room.file)
+                    wait_for(lambda: remarks(host)[-1] == ANOTHER, "what is said", 30)
+                room.file.unlink()
+                wait_for(lambda count=count: remarks(host)[-1:] == [renewed(3)] and len(remarks(host)) > 2 * count, "what is said", 30)
+                same(room.file.stat().st_mode & 0o777, 0o640, "who may read and write it")
+            host.finish()
+        finally:
+            host.kill()
+        room.holds_log(sent)
+        same(room.file.stat().st_mode & 0o777, 0o640, "who may read and write it")
+
+
+def beside():
+    """What stands beside a journal under a name of its own, and is no regular file, holds no start and is not written through."""
+    with Room() as room:
+        with room.host() as host:
+            sent = fill(host, 1)
+        data, victim = room.file.read_bytes(), Path(room.folder.name, "victim")
+        victim.write_bytes(b"another's\n")
+        lock, aside, fresh = (Path(f"{room.file}.{it}") for it in ("lock", "damaged", "new"))
+        lock.unlink()
+        for file, there in ((lock, data), (aside, data + b"event")):
+            room.file.write_bytes(there)
+            words = f"journal {room.file}: FILE{file.suffix} is no regular file\ncannot use the journal\n"
+            for make in (os.mkfifo, os.mkdir, lambda path: os.symlink(victim, path), lambda path: os.symlink("/nowhere", path)):
+                make(file)
+                same(room.refused(4, words), words, f"a start beside {file.name}")
+                room.ended("journal", "repair", room.file, status=4, error=words)
+                file.rmdir() if file.is_dir() else file.unlink()
+            same((room.file.read_bytes(), victim.read_bytes()), (there, b"another's\n"), "the files")
+        room.file.write_bytes(data)
+        for make in (lambda path: os.symlink(victim, path), lambda path: os.link(victim, path)):
+            make(fresh)
+            room.holds_log(sent, said=[journals.LEFT])
+            same((victim.read_bytes(), room.file.is_symlink(), room.file.stat().st_nlink), (b"another's\n", False, 1), "the files")
+        # A pipe is no mark of a host's, and goes when the journal is written anew.
+        os.mkfifo(fresh)
+        host = room.host()
+        try:
+            room.file.unlink()
+            wait_for(lambda: remarks(host) == [lost(GONE), renewed(3)], "what is said", 30)
+            host.finish()
+        finally:
+            host.kill()
+        room.holds_log(sent)
+
+
 def no_file():
     """What is there and is no file of bytes is no journal: a pipe, a device."""
     with Room() as room:
@@ -117,6 +182,8 @@ def no_file():
             words = [journals.PROGRAM, "host", room.program, "--listen", f"{hosting.HOST}:0", "--journal", path]
             said = subprocess.run(words, stdin=subprocess.DEVNULL, capture_output=True, text=True, timeout=60)
             same((said.returncode, said.stdout, said.stderr), (4, "", journals.unusable(path, 22)), f"a start over {path}")
+            for action in ("check", "repair"):
+                room.ended("journal", action, path, status=4, error=journals.unusable(path, 22))
 
 
-CASES = [one_host, moved, replaced, no_file]
+CASES = [one_host, moved, replaced, permissions, beside, no_file]

@@ -127,8 +127,8 @@ OLD = "journal: it was of form 1; it was written anew, of form 2"
 LEFT = "journal: it could not be written when a host ended; it was written anew"
 NO_RECORD = "is no record of this program's form, and no sum"
 WRONG_SUM = "is not the sum of what stands before it"
-# Of a torn batch so many lines may stand behind the one that does not go on.
-MOST_TORN = 1_024
+# Of a torn batch so many lines may stand behind the one that does not go on, and no line of it has more bytes than this.
+MOST_TORN, LONGEST = 1_024, 128
 
 
 class Read(NamedTuple):
@@ -158,12 +158,15 @@ def read(data):
         elif RECORD.fullmatch(line.decode("latin-1")):
             records.append(line.decode())
         else:
-            rest = data[kept:].split(b"\n")[:-1]
-            later = len(rest) > MOST_TORN + 1 or any(it.startswith(b"= ") for it in rest)
+            *rest, torn = data[kept:].split(b"\n")
+            later = len(rest) > MOST_TORN + 1 or len(torn) > LONGEST or any(it.startswith(b"= ") or len(it) > LONGEST for it in rest)
             return Read(records, kept, number, WRONG_SUM if line.startswith(b"= ") else NO_RECORD, later)
         digest.update(data[kept:end])
         kept, number = end, number + 1
-    return Read(records, kept, number, "is torn" if kept < len(data) else "")
+    torn = data[kept:]
+    if len(torn) > LONGEST:
+        return Read(records, kept, number, WRONG_SUM if torn.startswith(b"= ") else NO_RECORD, True)
+    return Read(records, kept, number, "is torn" if torn else "")
 
 
 def summed(first, records, every=1_024):

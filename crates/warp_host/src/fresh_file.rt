@@ -3,8 +3,8 @@
 use crate::journal_faults::{FileFault, OpenFault};
 use crate::journal_file::JournalFile;
 use std::alloc::{AllocError, Global};
-use std::fs::{self, File, Files, Metadata, OpenOptions, TryLockError};
-use std::io::{ErrorKind, Read, Seek, SeekFrom, Write};
+use std::fs::{self, File, Files, Metadata, OpenOptions, Permissions, TryLockError};
+use std::io::{self, ErrorKind, Read, Seek, SeekFrom, Write};
 use std::os::unix::fs::{MetadataExt, OpenOptionsExt};
 use std::path::Path;
 use warp_journal::Journal;
@@ -67,6 +67,44 @@ pub fn lock_file(file: &File) -> Result<(), FileFault> {
     }
 }
 
+/// The system's number for what can't be used so.
+const INVALID: i32 = 22;
+
+/// Refuses what stands at this path, behind links, where it is neither a file of bytes nor a folder: a device is no
+/// journal, and a pipe would hold the one that opens it.
+pub fn refuse_special_file<F: Files<File = File>>(files: &F, path: &str) -> Result<(), FileFault> {
+    if let Ok(about) = fs::metadata(files, path) {
+        if !about.is_file() && !about.is_dir() {
+            return Err(FileFault::System(io::Error::from_raw_os_error(INVALID)));
+        }
+    }
+    Ok(())
+}
+
+/// Opens a file that stands beside a journal, at this path, to write behind what it has, or makes it with these
+/// permissions. No link is followed. What is there and is no regular file is refused so, before it is opened.
+pub(crate) fn open_regular<F: Files<File = File>>(
+    files: &F,
+    path: &str,
+    mode: u32,
+    otherwise: FileFault,
+) -> Result<File, FileFault> {
+    if let Ok(about) = fs::symlink_metadata(files, path) {
+        if !about.is_file() {
+            return Err(otherwise);
+        }
+    }
+    let file = OpenOptions::new()
+        .append(true)
+        .create(true)
+        .mode(mode)
+        .open(files, path)?;
+    if !file.metadata()?.is_file() {
+        return Err(otherwise);
+    }
+    Ok(file)
+}
+
 /// Begins a journal in this file, which has nothing but a front of its first line.
 pub(crate) fn begin(
     alloc: Global,
@@ -99,11 +137,7 @@ fn open_aside<F: Files<File = File>>(
 ) -> Result<(File, String), FileFault> {
     let mut name = String::from_str(alloc, path)?;
     name.push_str(".damaged")?;
-    let aside = OpenOptions::new()
-        .append(true)
-        .create(true)
-        .mode(OWNER_ALONE)
-        .open(files, name.as_str())?;
+    let aside = open_regular(files, name.as_str(), OWNER_ALONE, FileFault::NoAside)?;
     Ok((aside, name))
 }
 
@@ -131,54 +165,83 @@ pub fn keep_aside<F: Files<File = File>>(
     Ok(name)
 }
 
-/// Lets those read and write the fresh file who may read and write the file at this path, if there is one.
-fn keep_permissions<F: Files<File = File>>(
-    files: &F,
-    fresh: &File,
-    path: &str,
-) -> Result<(), FileFault> {
-    let Ok(about) = fs::metadata(files, path) else {
-        return Ok(());
-    };
-    let permissions = about.permissions();
+/// Lets those read and write the fresh file who have these permissions: those of the journal's file, which is open.
+fn keep_permissions(fresh: &File, permissions: Permissions) -> Result<(), FileFault> {
     if fresh.metadata()?.permissions() != permissions {
         fresh.set_permissions(permissions)?;
     }
     Ok(())
 }
 
-/// Begins a journal with the same first line in a fresh file beside this one.
+/// Which file stands at this path, where it is a regular one of one name that belongs to this user; no link is followed.
+fn left_by<F: Files<File = File>>(files: &F, path: &str, owner: u32) -> Option<FileId> {
+    let Ok(about) = fs::symlink_metadata(files, path) else {
+        return None;
+    };
+    if about.is_file() && about.nlink() == 1 && about.uid() == owner {
+        Some(id_of(&about))
+    } else {
+        None
+    }
+}
+
+/// Removes the file of this name, if there is one.
+fn remove<F: Files<File = File>>(files: &F, path: &str) -> Result<(), FileFault> {
+    match fs::remove_file(files, path) {
+        Ok(()) => Ok(()),
+        Err(error) => {
+            if error.kind() == ErrorKind::NotFound {
+                return Ok(());
+            }
+            Err(FileFault::System(error))
+        }
+    }
+}
+
+/// Opens the fresh file at this path: the one that the journal's owner left there, which stays as a mark until it is
+/// written, or a new one for its owner alone. What else stands there is removed: nothing is written through a link.
+fn open_fresh<F: Files<File = File>>(files: &F, path: &str, owner: u32) -> Result<File, FileFault> {
+    if let Some(left) = left_by(files, path, owner) {
+        let file = OpenOptions::new().write(true).open(files, path)?;
+        if id_of(&file.metadata()?) == left {
+            return Ok(file);
+        }
+    }
+    remove(files, path)?;
+    let file = OpenOptions::new()
+        .write(true)
+        .create_new(true)
+        .mode(OWNER_ALONE)
+        .open(files, path)?;
+    Ok(file)
+}
+
+/// Begins a journal with the same first line in a fresh file beside this one, whose file is open.
 pub(crate) fn begin_beside<F: Files<File = File>>(
     files: &F,
     alloc: Global,
     place: &JournalPlace,
+    old: &JournalFile,
 ) -> Result<(JournalFile, Journal), FileFault> {
     let name = path_beside(alloc, place.path.as_str())?;
-    let file = OpenOptions::new()
-        .write(true)
-        .create(true)
-        .mode(OWNER_ALONE)
-        .open(files, name.as_str())?;
+    let about = old.file.metadata()?;
+    let file = open_fresh(files, name.as_str(), about.uid())?;
     lock_file(&file)?;
-    keep_permissions(files, &file, place.path.as_str())?;
+    keep_permissions(&file, about.permissions())?;
     begin(alloc, file, &place.first)
 }
 
-/// Looks whether what stands under the journal's name is its file, and that no shorter than so many bytes.
-pub(crate) fn look<F: Files<File = File>>(
+/// How many bytes the file has that stands under the journal's name, which is to be the journal's.
+pub(crate) fn length_of<F: Files<File = File>>(
     files: &F,
     place: &JournalPlace,
-    len: u64,
-) -> Result<(), FileFault> {
+) -> Result<u64, FileFault> {
     match fs::metadata(files, place.path.as_str()) {
         Ok(about) => {
             if id_of(&about) != place.id {
                 return Err(FileFault::Gone);
             }
-            if about.len() < len {
-                return Err(FileFault::Short);
-            }
-            Ok(())
+            Ok(about.len())
         }
         Err(error) => {
             if error.kind() == ErrorKind::NotFound {
@@ -187,6 +250,22 @@ pub(crate) fn look<F: Files<File = File>>(
             Err(FileFault::System(error))
         }
     }
+}
+
+/// Looks whether what stands under the journal's name is its file, of just so many bytes.
+pub(crate) fn look<F: Files<File = File>>(
+    files: &F,
+    place: &JournalPlace,
+    len: u64,
+) -> Result<(), FileFault> {
+    let found = length_of(files, place)?;
+    if found < len {
+        return Err(FileFault::Short);
+    }
+    if found > len {
+        return Err(FileFault::Long);
+    }
+    Ok(())
 }
 
 /// Has this file, the fresh one beside the journal, take its place, on the disk too. Where another file than the
@@ -225,11 +304,12 @@ pub(crate) fn is_left<F: Files<File = File>>(
 /// What the journal's thread needs of the system's files. It is a trait of its own, since `Files` has a type of folders
 /// that none can name, and so goes to no other thread.
 pub trait FreshFiles {
-    /// Begins a journal with the same first line in a fresh file beside this one.
+    /// Begins a journal with the same first line in a fresh file beside this one, whose file is open.
     fn begin_fresh(
         &self,
         alloc: Global,
         place: &JournalPlace,
+        old: &JournalFile,
     ) -> Result<(JournalFile, Journal), FileFault>;
 
     /// Has this file, the fresh one beside the journal, take its place, on the disk too. Where another file than the
@@ -241,7 +321,7 @@ pub trait FreshFiles {
         fresh: &JournalFile,
     ) -> Result<(), FileFault>;
 
-    /// Looks whether what stands under the journal's name is its file, and that no shorter than so many bytes.
+    /// Looks whether what stands under the journal's name is its file, of just so many bytes.
     fn look_at(&self, place: &JournalPlace, len: u64) -> Result<(), FileFault>;
 }
 
@@ -250,8 +330,9 @@ impl<X: Files<File = File>> FreshFiles for X {
         &self,
         alloc: Global,
         place: &JournalPlace,
+        old: &JournalFile,
     ) -> Result<(JournalFile, Journal), FileFault> {
-        begin_beside(self, alloc, place)
+        begin_beside(self, alloc, place, old)
     }
 
     fn replace_by_fresh(

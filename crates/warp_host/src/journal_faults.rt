@@ -40,8 +40,14 @@ pub enum FileFault {
     Gone,
     /// It is shorter than it was written.
     Short,
+    /// It is longer than it was written: another wrote to it.
+    Long,
     /// Another file stands under its name.
     Other,
+    /// What stands beside it with `.lock` behind its name is no regular file.
+    NoLock,
+    /// What stands beside it with `.damaged` behind its name is no regular file.
+    NoAside,
 }
 
 impl From<AllocError> for FileFault {
@@ -70,7 +76,10 @@ impl FileFault {
         match self {
             FileFault::Gone => Some("it was removed, renamed or replaced"),
             FileFault::Short => Some("it was cut short"),
+            FileFault::Long => Some("another wrote to it"),
             FileFault::Other => Some("another file stands under its name"),
+            FileFault::NoLock => Some("FILE.lock is no regular file"),
+            FileFault::NoAside => Some("FILE.damaged is no regular file"),
             FileFault::Open(_) | FileFault::System(_) => None,
         }
     }
@@ -82,6 +91,7 @@ impl FileFault {
             (FileFault::Open(_), FileFault::Open(_)) => true,
             (FileFault::Gone, FileFault::Gone) => true,
             (FileFault::Short, FileFault::Short) => true,
+            (FileFault::Long, FileFault::Long) => true,
             (FileFault::Other, FileFault::Other) => true,
             _ => false,
         }
@@ -99,7 +109,12 @@ pub fn tell_file_fault<X: Eprint>(rt: &X, path: &str, fault: FileFault) -> OpenF
             let _ = eprintln!(rt; "journal {path}: {error}");
             OpenFault::from(error)
         }
-        FileFault::Gone | FileFault::Short | FileFault::Other => {
+        FileFault::Gone
+        | FileFault::Short
+        | FileFault::Long
+        | FileFault::Other
+        | FileFault::NoLock
+        | FileFault::NoAside => {
             let why = fault.words().unwrap_or("");
             let _ = eprintln!(rt; "journal {path}: {why}");
             OpenFault::Unusable

@@ -4,14 +4,14 @@ ghost use Rattle.warp_host.specs.Telling.{told_with};
 
 use crate::durable::Tells;
 use crate::fresh_file::{
-    JournalPlace, OWNER_ALONE, PIECE, begin, begin_beside, id_of, is_left, keep_aside, lock_file,
-    look, real_path, sync_folder, take_place,
+    JournalPlace, OWNER_ALONE, PIECE, begin, begin_beside, id_of, is_left, keep_aside, length_of,
+    lock_file, open_regular, real_path, refuse_special_file, sync_folder, take_place,
 };
 use crate::journal_faults::{FileFault, OpenFault, tell_file_fault};
 use crate::renewal::take_in_batches;
 use crate::scribe::second_now;
 use std::alloc::Global;
-use std::fs::{self, File, Files, OpenOptions};
+use std::fs::{File, Files, OpenOptions};
 use std::io::{self, Eprint, Read, Seek, Write};
 use std::os::unix::fs::OpenOptionsExt;
 use std::time::{Clock, Duration};
@@ -133,6 +133,9 @@ pub struct FirstLines<'a> {
     pub old: &'a [u8],
 }
 
+/// Who may read and write the file of a lock that is made: whom the user's mask leaves.
+const LOCK_MODE: u32 = 0o666;
+
 /// Takes the lock of the journal at this path, which stands beside it. All paths that lead to the journal, but for hard
 /// links, have one lock.
 pub fn lock_journal<F: Files<File = File>>(
@@ -142,10 +145,7 @@ pub fn lock_journal<F: Files<File = File>>(
 ) -> Result<File, FileFault> {
     let mut name = real_path(files, alloc, path)?;
     name.push_str(".lock")?;
-    let lock = OpenOptions::new()
-        .write(true)
-        .create(true)
-        .open(files, name.as_str())?;
+    let lock = open_regular(files, name.as_str(), LOCK_MODE, FileFault::NoLock)?;
     lock_file(&lock)?;
     Ok(lock)
 }
@@ -213,11 +213,13 @@ fn tell_damage<X: Eprint>(rt: &X, fault: Fault, line: u64) {
     );
 }
 
-/// Tells what is at the end of a journal that was read, and how many bytes of it are cut off.
+/// Tells what was at the end of a journal that was read, and how many bytes of it were cut off.
 fn tell_ending<X: Eprint>(rt: &X, ending: Ending, line: u64, cut: u64) {
     let _ = match ending {
         Ending::Whole => Ok(()),
-        Ending::Torn => { eprintln!(rt; "journal: line {line} is torn; {cut} bytes are cut off") }
+        Ending::Torn => eprintln!(rt;
+            "journal: line {line} is torn; {cut} bytes are cut off, and kept in FILE.damaged"
+        ),
         Ending::Cut(fault) | Ending::Damaged(fault) => {
             let why = words_of(fault);
             eprintln!(rt;
@@ -306,7 +308,7 @@ fn read_all<X: Eprint, T: Timeline>(
 }
 
 /// Reads the journal in this file, which begins with this first line, cuts off what is torn, and has the replica take
-/// its records. What is cut for another reason is kept aside.
+/// its records. What is cut off is kept aside: it is on the disk there before it goes.
 fn go_on<X: Files<File = File> + Eprint, T: Timeline>(
     rt: &X,
     alloc: Global,
@@ -334,24 +336,18 @@ fn go_on<X: Files<File = File> + Eprint, T: Timeline>(
         return Err(FileFault::Open(OpenFault::Damaged(line)));
     }
     let cut = file.metadata()?.len().saturating_sub(kept);
-    tell_ending(rt, ending, line, cut);
-    if let Ending::Cut(_) = ending {
-        keep_aside(rt, alloc, path, &mut file, kept)?;
-    }
     if ending != Ending::Whole {
+        keep_aside(rt, alloc, path, &mut file, kept)?;
         file.set_len(kept)?;
     }
+    tell_ending(rt, ending, line, cut);
     Ok((JournalFile::new(file, kept), journal))
 }
 
 /// Makes the file at this path where none is there. From then on all paths that lead to it have one lock. What is there
 /// and no file of bytes is no journal.
 fn make_file<F: Files<File = File>>(files: &F, path: &str) -> Result<(), FileFault> {
-    if let Ok(about) = fs::metadata(files, path) {
-        if !about.is_file() && !about.is_dir() {
-            return Err(FileFault::System(io::Error::from_raw_os_error(INVALID)));
-        }
-    }
+    refuse_special_file(files, path)?;
     let _file = OpenOptions::new()
         .append(true)
         .create(true)
@@ -359,9 +355,6 @@ fn make_file<F: Files<File = File>>(files: &F, path: &str) -> Result<(), FileFau
         .open(files, path)?;
     Ok(())
 }
-
-/// The system's number for what can't be used so.
-const INVALID: i32 = 22;
 
 /// The file at this path, locked.
 fn open_file<F: Files<File = File>>(files: &F, path: &str) -> Result<File, FileFault> {
@@ -387,8 +380,8 @@ fn place_of<F: Files<File = File>>(
         first: Vec::from_slice(alloc, first)?,
         id: id_of(&file.metadata()?),
     };
-    match look(files, &place, 0) {
-        Ok(()) => Ok(place),
+    match length_of(files, &place) {
+        Ok(_) => Ok(place),
         Err(FileFault::Gone) => Err(FileFault::Open(OpenFault::InUse)),
         Err(fault) => Err(fault),
     }
@@ -448,14 +441,15 @@ fn write_log<T: Timeline>(
     Ok(())
 }
 
-/// Writes a journal anew, of which the replica has all records.
+/// Writes a journal anew, of which the replica has all records, and whose file is open.
 fn write_again<X: Files<File = File> + Clock, T: Timeline>(
     rt: &X,
     alloc: Global,
     place: &mut JournalPlace,
+    old: &JournalFile,
     replica: &Replica<T>,
 ) -> Result<Keeper<JournalFile>, FileFault> {
-    let (disk, journal) = begin_beside(rt, alloc, place)?;
+    let (disk, journal) = begin_beside(rt, alloc, place, old)?;
     let mut fresh = Keeper::new(alloc, disk, journal);
     if write_log(&mut fresh, replica, second_now(rt)).is_err() {
         return Err(FileFault::of_system(fresh.disk().fault()));
@@ -478,7 +472,7 @@ fn keep_on<X: Files<File = File> + Eprint + Clock, T: Timeline>(
     let is_left = is_left(rt, alloc, place)?;
     if is_left || is_old {
         // What was read of the old file may not be on the disk, where a sync of it failed.
-        let keeper = write_again(rt, alloc, place, replica)?;
+        let keeper = write_again(rt, alloc, place, &disk, replica)?;
         let _ = rt.eprintln(if is_left {
             "journal: it could not be written when a host ended; it was written anew"
         } else {

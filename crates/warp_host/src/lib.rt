@@ -47,7 +47,7 @@ mod tallies;
 mod web;
 mod writing;
 
-pub use fresh_file::{FreshFiles, JournalPlace, keep_aside, lock_file};
+pub use fresh_file::{FreshFiles, JournalPlace, keep_aside, lock_file, refuse_special_file};
 pub use hosting::{HostFault, Machine, Served, host};
 pub use journal_faults::{FileFault, OpenFault, tell_file_fault};
 pub use journal_file::{

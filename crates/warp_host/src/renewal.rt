@@ -41,7 +41,7 @@ impl<'a> Scribe<'a> {
         let mut told = self.reason();
         operator::tell_journal_fails(rt, told);
         // The fresh file stays while this goes on: a host that begins beside it trusts the old one no more.
-        let _ = rt.begin_fresh(self.alloc, &self.place);
+        let _ = rt.begin_fresh(self.alloc, &self.place, self.keeper.disk());
         let least = self.keeper.len();
         for _ in rt.forever() {
             if self.durable.is_over() {
@@ -75,7 +75,7 @@ impl<'a> Scribe<'a> {
         rt: &X,
         least: u32,
     ) -> Result<(), FileFault> {
-        let (disk, journal) = rt.begin_fresh(self.alloc, &self.place)?;
+        let (disk, journal) = rt.begin_fresh(self.alloc, &self.place, self.keeper.disk())?;
         let handle = disk.file.try_clone()?;
         let mut fresh = Keeper::new(self.alloc, disk, journal);
         self.beginnings = self.beginnings.wrapping_add(1);

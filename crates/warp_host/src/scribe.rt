@@ -117,7 +117,7 @@ impl<'a> Scribe<'a> {
         Ok(())
     }
 
-    /// Looks whether the file stands under its name, as long as it was written.
+    /// Looks whether the file stands under its name, just as long as it was written.
     fn look<X: FreshFiles>(&mut self, rt: &X, now: Duration) -> Result<(), Failed> {
         self.looked = now;
         match rt.look_at(&self.place, self.keeper.disk().len()) {

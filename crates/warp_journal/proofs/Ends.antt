@@ -18,12 +18,13 @@ use Rattle.warp_journal.specs.declared.reading.Rest.{Rest}
 use Rattle.warp_journal.specs.declared.reading.NotRead.{NotRead}
 use Rattle.warp_journal.specs.declared.reading.NotRead.TheVariants.{OtherFirst, NoMemory}
 use Rattle.std.specs.Bool.{⊤}
-use Rattle.warp_journal.specs.Journal.{IsWrong, Keeps, begins_sum, line_of}
+use Rattle.warp_tag.specs.Limits.{longest_line}
+use Rattle.warp_journal.specs.Journal.{IsFaultOf, IsWrong, Keeps, line_of}
 use Rattle.warp_journal.specs.Reading.AreLines.{NoLine, OneMore}
 use Rattle.warp_journal.specs.Reading.SumsTo.{Begun}
-use Rattle.warp_journal.specs.Reading.{AreLines, IsRead, IsRest, SumsTo}
+use Rattle.warp_journal.specs.Reading.{AreLines, IsRead, IsRest, SumsTo, shows_more}
 use Rattle.warp_journal.specs.Pieces.{IsAt, IsBehind, IsSaid, Reads, most_held}
-use Rattle.warp_journal.proofs.Pieces.{none_torn, one_line_none}
+use Rattle.warp_journal.proofs.Pieces.{long_wrong, none_torn, one_line_none}
 
 -- what is kept of the bytes, and the rest of them
 pub split_at : (text rest bytes : List ℕ) (kept : ℕ) → bytes ≡ text ++ rest → kept ≡ length text →
@@ -44,20 +45,21 @@ at_split first bytes records r is =
     (is.all ∙ ap (λ (it : List ℕ). it ++ is.torn) is.lines.all ∙ append_assoc is.lines.text is.lines.lines is.torn)
     is.lines.is_kept.kept
 
-rest_of : (f : Form) (j : Journal) (text lines torn : List ℕ) (rest : Rest) (ending : Ending) → IsOneLine torn →
-    IsBehind f j text lines (Some rest) → IsSaid rest ending → IsRest f j text (lines ++ torn) ending
-rest_of f j text lines torn rest (Cut why) one (wrong, are) said =
-    let more : lines ++ torn ≡ line_of wrong.0 ++ (wrong.1 ++ torn) =
-    ap (λ (it : List ℕ). it ++ torn) wrong.2 ∙ append_assoc (line_of wrong.0) wrong.1 torn in (
-      (
-        wrong.0,
-        wrong.1 ++ torn,
-        more,
-        subst (λ (it : Fault). IsWrong f j.tells_seconds j.count text wrong.0 it) (sym said.0) wrong.3,
-      ),
-      (lines, torn, are.0, rest.has_sum, refl, are.1, one, (said.1, omega (arith, are.2, said.2))),
-    )
-rest_of f j text lines torn rest (Damaged why) one (wrong, are) said =
+-- a line of which few bytes are held has few
+few_held : (torn held : List ℕ) → held ≡ take most_held torn → length held ≤ longest_line → length torn ≤ longest_line
+few_held torn held is few =
+    let many : length held ≡ min most_held (length torn) = ap length is ∙ length-take most_held torn in
+    omega (arith, many, few)
+
+many_held : (torn held : List ℕ) → held ≡ take most_held torn → longest_line < length held → longest_line < length torn
+many_held torn held is some =
+    let many : length held ≡ min most_held (length torn) = ap length is ∙ length-take most_held torn in
+    omega (arith, many, some)
+
+rest_of : (f : Form) (j : Journal) (text lines torn held : List ℕ) (rest : Rest) (many : ℕ) (ending : Ending) →
+    held ≡ take most_held torn → many ≡ length held → IsOneLine torn →
+    IsBehind f j text lines (Some rest) → IsSaid rest many ending → IsRest f j text (lines ++ torn) ending
+rest_of f j text lines torn held rest many (Cut why) holds is one (wrong, are) said =
     let more : lines ++ torn ≡ line_of wrong.0 ++ (wrong.1 ++ torn) =
     ap (λ (it : List ℕ). it ++ torn) wrong.2 ∙ append_assoc (line_of wrong.0) wrong.1 torn in (
       (
@@ -70,31 +72,53 @@ rest_of f j text lines torn rest (Damaged why) one (wrong, are) said =
         lines,
         torn,
         are.0,
-        rest.has_sum,
+        rest.is_more,
+        refl,
+        are.1,
+        one,
+        (said.1, omega (arith, are.2, said.2), few_held torn held holds (omega (arith, is, said.3))),
+      ),
+    )
+rest_of f j text lines torn held rest many (Damaged why) holds is one (wrong, are) said =
+    let more : lines ++ torn ≡ line_of wrong.0 ++ (wrong.1 ++ torn) =
+    ap (λ (it : List ℕ). it ++ torn) wrong.2 ∙ append_assoc (line_of wrong.0) wrong.1 torn in
+    inl (
+      (
+        wrong.0,
+        wrong.1 ++ torn,
+        more,
+        subst (λ (it : Fault). IsWrong f j.tells_seconds j.count text wrong.0 it) (sym said.0) wrong.3,
+      ),
+      (
+        lines,
+        torn,
+        are.0,
+        rest.is_more,
         refl,
         are.1,
         one,
         elim said.1 [
           | inl sums ↦ inl sums
-          | inr many ↦ inr (omega (arith, are.2, many))
+          | inr (inl behind) ↦ inr (inl (omega (arith, are.2, behind)))
+          | inr (inr long) ↦ inr (inr (many_held torn held holds (omega (arith, is, long))))
         ],
       ),
     )
-rest_of f j text lines torn rest Whole one behind said = absurd said
-rest_of f j text lines torn rest Torn one behind said = absurd said
+rest_of f j text lines torn held rest many Whole holds is one behind said = absurd said
+rest_of f j text lines torn held rest many Torn holds is one behind said = absurd said
 
 moved : (f : Form) (j : Journal) (a a' b b' : List ℕ) (ending : Ending) → a ≡ a' → b ≡ b' → IsRest f j a' b' ending → IsRest f j a b ending
 moved f j a a' b b' ending ea eb is =
     subst (λ (it : List ℕ). IsRest f j it b ending) (sym ea) (subst (λ (it : List ℕ). IsRest f j a' it ending) (sym eb) is)
 
 -- where a line did not go on
-pub ends_wrong : (first bytes : List ℕ) (records : List Record) (r : Reading) (rest : Rest) (ending : Ending) →
-    r.lines.rest ≡ Some rest → IsSaid rest ending → IsAt first bytes records r →
+pub ends_wrong : (first bytes : List ℕ) (records : List Record) (r : Reading) (rest : Rest) (many : ℕ) (ending : Ending) →
+    r.lines.rest ≡ Some rest → many ≡ length r.held.items → IsSaid rest many ending → IsAt first bytes records r →
     IsRest r.lines.form r.lines.journal (take r.lines.kept bytes) (drop r.lines.kept bytes) ending
-ends_wrong first bytes records r rest ending some said is =
+ends_wrong first bytes records r rest many ending some count said is =
     let two = at_split first bytes records r is in
     moved r.lines.form r.lines.journal _ is.lines.text _ (is.lines.lines ++ is.torn) ending two.0 two.1
-    (rest_of r.lines.form r.lines.journal is.lines.text is.lines.lines is.torn rest ending is.one_line
+    (rest_of r.lines.form r.lines.journal is.lines.text is.lines.lines is.torn r.held.items rest many ending is.held count is.one_line
     (subst (λ (o : Option Rest). IsBehind r.lines.form r.lines.journal is.lines.text is.lines.lines o) some is.lines.is_behind) said)
 
 behind_none : (first bytes : List ℕ) (records : List Record) (r : Reading) → r.lines.rest ≡ None →
@@ -114,16 +138,32 @@ ends_whole first bytes records r none empty is =
 
 -- and a torn line is left
 pub ends_torn : (first bytes : List ℕ) (records : List Record) (r : Reading) → r.lines.rest ≡ None →
-    (length r.held.items ≡ 0 → ⊥) → IsAt first bytes records r →
+    (length r.held.items ≡ 0 → ⊥) → length r.held.items ≤ longest_line → IsAt first bytes records r →
     IsRest r.lines.form r.lines.journal (take r.lines.kept bytes) (drop r.lines.kept bytes) Torn
-ends_torn first bytes records r none some is =
+ends_torn first bytes records r none some few is =
     let left : drop r.lines.kept bytes ≡ is.torn =
     (at_split first bytes records r is).1 ∙ behind_none first bytes records r none is in (
       (λ empty.
           let no_torn : is.torn ≡ [] = sym left ∙ empty in
           some (ap length is.held ∙ ap (λ (it : List ℕ). length (take most_held it)) no_torn)),
       subst IsOneLine (sym left) is.one_line,
+      subst (λ (it : List ℕ). length it ≤ longest_line) (sym left) (few_held is.torn r.held.items is.held few),
     )
+
+-- or a line that is too long
+pub ends_long : (first bytes : List ℕ) (records : List Record) (r : Reading) (why : Fault) → r.lines.rest ≡ None →
+    longest_line < length r.held.items → IsFaultOf r.held.items why → IsAt first bytes records r →
+    IsRest r.lines.form r.lines.journal (take r.lines.kept bytes) (drop r.lines.kept bytes) (Damaged why)
+ends_long first bytes records r why none many of is =
+    let j = r.lines.journal in
+    let left : drop r.lines.kept bytes ≡ is.torn =
+    (at_split first bytes records r is).1 ∙ behind_none first bytes records r none is in
+    subst (λ (it : List ℕ). IsRest r.lines.form j (take r.lines.kept bytes) it (Damaged why)) (sym left)
+    (inr (
+      is.one_line,
+      many_held is.torn r.held.items is.held many,
+      long_wrong r.lines.form j.tells_seconds j.count (take r.lines.kept bytes) r.held.items is.torn why many is.held of,
+    ))
 
 -- all bytes that came, once the first line has
 pub read_whole : (f : Form) (first bytes : List ℕ) (records : List Record) (r : Reading) (found : Found) →
@@ -314,8 +354,8 @@ reads_none f first r form is came rest held keeps kept one bytes count =
           keeps = keeps;
           kept = kept;
           number = λ plain. (
-            false || begins_sum first,
-            subst (λ (n : ℕ). AreLines line n (false || begins_sum first)) (sym one) (OneMore [] first 0 false NoLine plain),
+            false || shows_more first,
+            subst (λ (n : ℕ). AreLines line n (false || shows_more first)) (sym one) (OneMore [] first 0 false NoLine plain),
           );
           summed = sums;
         };

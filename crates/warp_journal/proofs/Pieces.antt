@@ -1,7 +1,8 @@
 -- What a reading has taken goes on by a line, and by a piece.
-use Rattle.std.proofs.Common.{◌≡◌, ◌<◌, ◌≤◌, ◌+◌, ◌||◌, ℕ, suc, min, Bool, false, List, [], ◌∷◌, ◌++◌, length, take, codes, bytes_eq, ap, sym, subst, ◌∙◌, refl, inl, arith, append_assoc}
+use Rattle.std.proofs.Common.{◌≡◌, ◌<◌, ◌≤◌, ◌+◌, ◌||◌, ℕ, suc, min, nat_lt, Bool, false, List, [], ◌∷◌, ◌++◌, length, take, codes, bytes_eq, ap, sym, subst, ◌∙◌, refl, inl, inr, arith, append_assoc}
 use Rattle.std.proofs.Common.{Option, Some, None, MatchOption}
 use Rattle.std.specs.Bool.{⊤}
+use Rattle.std.proofs.lemmas.Bool.{cases_lt, le-ltb, lt-ltb}
 use Rattle.std.proofs.lemmas.List.{append-nil, length-append, length-take, take-take, take_all}
 use Rattle.std.proofs.lemmas.List.Elements.{All-append}
 use Rattle.warp_tag.specs.declared.form.Form.{Form}
@@ -15,7 +16,7 @@ use Rattle.warp_journal.specs.declared.journal.Journal.{Journal}
 use Rattle.warp_journal.specs.declared.reading.Lines.{Lines}
 use Rattle.warp_journal.specs.declared.reading.Rest.{Rest}
 use Rattle.warp_journal.specs.Journal.{IsFaultOf, IsNext, IsWrong, Keeps, begins_sum, line_of, sum_text, tells_seconds, with_found}
-use Rattle.warp_journal.specs.Reading.{AreLines, SumsTo, most_torn}
+use Rattle.warp_journal.specs.Reading.{AreLines, SumsTo, most_torn, shows_more}
 use Rattle.warp_journal.specs.Reading.AreLines.{NoLine, OneMore}
 use Rattle.warp_journal.specs.Reading.SumsTo.{More, Summed}
 use Rattle.warp_journal.specs.Pieces.{IsBehind, IsKept, most_held}
@@ -24,6 +25,18 @@ use Rattle.warp_journal.specs.Pieces.{IsBehind, IsKept, most_held}
 pub begins_same : (text line : List ℕ) → text ≡ take most_held line → begins_sum text ≡ begins_sum line
 begins_same text line is =
     ap (λ (it : List ℕ). bytes_eq (codes "= ") it) (ap (λ (it : List ℕ). take 2 it) is ∙ take-take 2 most_held line (omega arith))
+
+-- and whether a torn batch may have it
+pub shows_same : (text line : List ℕ) → text ≡ take most_held line → shows_more text ≡ shows_more line
+shows_same text line is =
+    let many : length text ≡ min most_held (length line) = ap length is ∙ length-take most_held line in
+    let long : nat_lt longest_line (length text) ≡ nat_lt longest_line (length line) =
+    elim (cases_lt longest_line (length line)) [
+      | inl more ↦ lt-ltb longest_line (length text) (omega (arith, many, more)) ∙ sym (lt-ltb longest_line (length line) more)
+      | inr few ↦ le-ltb longest_line (length text) (omega (arith, many, few)) ∙ sym (le-ltb longest_line (length line) few)
+    ] in
+    ap (λ (b : Bool). b || nat_lt longest_line (length text)) (begins_same text line is)
+    ∙ ap (λ (b : Bool). begins_sum line || b) long
 
 -- a line that is not too long is its first bytes
 pub same_text : (text line : List ℕ) → length text ≤ longest_line → text ≡ take most_held line → text ≡ line
@@ -48,11 +61,11 @@ long_wrong f seconds count before text line TooMany many is of = absurd of
 long_wrong f seconds count before text line NoMemory many is of = absurd of
 
 one_more : (before line : List ℕ) (n m : ℕ) → m ≡ n + 1 → IsOneLine line →
-    (sums : Bool) × AreLines before n sums → (sums : Bool) × AreLines (before ++ line_of line) m sums
+    (more : Bool) × AreLines before n more → (more : Bool) × AreLines (before ++ line_of line) m more
 one_more before line n m is one lines =
     let up : suc n ≡ m = omega (arith, is) in (
-      lines.0 || begins_sum line,
-      subst (λ (k : ℕ). AreLines (before ++ line_of line) k (lines.0 || begins_sum line)) up (OneMore before line n lines.0 lines.1 one),
+      lines.0 || shows_more line,
+      subst (λ (k : ℕ). AreLines (before ++ line_of line) k (lines.0 || shows_more line)) up (OneMore before line n lines.0 lines.1 one),
     )
 
 -- a record more is kept
@@ -138,13 +151,13 @@ some_not_none fault is = subst (λ (o : Option Fault). MatchOption o ⊥ (λ (_ 
 pub behind_more : (f : Form) (j : Journal) (text lines shown line : List ℕ) (rest rest' : Rest) → IsOneLine line →
     shown ≡ take most_held line → IsBehind f j text lines (Some rest) →
     ((count : ℕ) → rest.behind ≡ min count (suc most_torn) → rest'.behind ≡ min (suc count) (suc most_torn)) →
-    rest'.has_sum ≡ (rest.has_sum || begins_sum shown) → rest'.fault ≡ rest.fault →
+    rest'.is_more ≡ (rest.is_more || shows_more shown) → rest'.fault ≡ rest.fault →
     IsBehind f j text (lines ++ line_of line) (Some rest')
 behind_more f j text lines shown line rest rest' one is known behind sum fault =
     let wrong = known.0 in
     let are = known.1 in
-    let has : rest'.has_sum ≡ (rest.has_sum || begins_sum line) =
-    sum ∙ ap (λ (b : Bool). rest.has_sum || b) (begins_same shown line is) in
+    let has : rest'.is_more ≡ (rest.is_more || shows_more line) =
+    sum ∙ ap (λ (b : Bool). rest.is_more || b) (shows_same shown line is) in
     let more : lines ++ line_of line ≡ line_of wrong.0 ++ (wrong.1 ++ line_of line) =
     ap (λ (it : List ℕ). it ++ line_of line) wrong.2 ∙ append_assoc (line_of wrong.0) wrong.1 (line_of line) in (
       (
@@ -156,7 +169,7 @@ behind_more f j text lines shown line rest rest' one is known behind sum fault =
       (
         suc are.0,
         subst (λ (b : Bool). AreLines (lines ++ line_of line) (suc (suc are.0)) b) (sym has)
-            (OneMore lines line (suc are.0) rest.has_sum are.1 one),
+            (OneMore lines line (suc are.0) rest.is_more are.1 one),
         behind are.0 are.2,
       ),
     )
@@ -164,12 +177,12 @@ behind_more f j text lines shown line rest rest' one is known behind sum fault =
 -- the first of them
 pub behind_first : (f : Form) (j : Journal) (text shown line : List ℕ) (rest : Rest) → IsOneLine line →
     shown ≡ take most_held line → IsWrong f j.tells_seconds j.count text line rest.fault → rest.behind ≡ 0 →
-    rest.has_sum ≡ begins_sum shown → IsBehind f j text (line_of line) (Some rest)
+    rest.is_more ≡ shows_more shown → IsBehind f j text (line_of line) (Some rest)
 behind_first f j text shown line rest one is wrong none sum = (
   (line, [], sym (append-nil (line_of line)), wrong),
   (
     0,
-    subst (λ (b : Bool). AreLines (line_of line) 1 b) (sym (sum ∙ begins_same shown line is)) (OneMore [] line 0 false NoLine one),
+    subst (λ (b : Bool). AreLines (line_of line) 1 b) (sym (sum ∙ shows_same shown line is)) (OneMore [] line 0 false NoLine one),
     none,
   ),
 )

@@ -13,8 +13,8 @@ use Rattle.warp_journal.specs.declared.reading.Front.{Front}
 use Rattle.warp_journal.specs.declared.reading.Lines.{Lines}
 use Rattle.warp_journal.specs.declared.reading.Reading.{Reading}
 use Rattle.warp_journal.specs.declared.reading.Rest.{Rest}
-use Rattle.warp_journal.specs.Journal.{IsWrong, Keeps, begins_sum, line_of}
-use Rattle.warp_journal.specs.Reading.{AreLines, SumsTo, most_torn}
+use Rattle.warp_journal.specs.Journal.{IsWrong, Keeps, line_of}
+use Rattle.warp_journal.specs.Reading.{AreLines, SumsTo, most_torn, shows_more}
 use Rattle.warp_journal.specs.Pieces.{IsAt, IsBehind, IsKept, IsWhole, most_held}
 use Rattle.warp_journal.proofs.Pieces.{behind_first, behind_more, none_torn, one_line_append, one_line_none}
 
@@ -39,7 +39,7 @@ kept_same first text records at at' same is = record {
 pub whole_behind : (first before shown line : List ℕ) (records : List Record) (at at' : Lines) (rest rest' : Rest) →
     at.rest ≡ Some rest → at'.rest ≡ Some rest' → SameKept at at' → IsOneLine line → shown ≡ take most_held line →
     ((count : ℕ) → rest.behind ≡ min count (suc most_torn) → rest'.behind ≡ min (suc count) (suc most_torn)) →
-    rest'.has_sum ≡ (rest.has_sum || begins_sum shown) → rest'.fault ≡ rest.fault →
+    rest'.is_more ≡ (rest.is_more || shows_more shown) → rest'.fault ≡ rest.fault →
     IsWhole first before records at → IsWhole first (before ++ line_of line) records at'
 whole_behind first before shown line records at at' rest rest' was now same one first_bytes behind sum fault is =
     let Behind : Form → Journal → Option Rest → Type 0 = λ f j r. IsBehind f j is.text is.lines r in
@@ -83,7 +83,7 @@ pub whole_wrong : (first before shown line : List ℕ) (records : List Record) (
     at'.rest ≡ Some rest → SameKept at at' → IsOneLine line → shown ≡ take most_held line →
     ((text : List ℕ) → Holds256 at.journal.sum text →
     IsWrong at.form at.journal.tells_seconds at.journal.count text line rest.fault) → rest.behind ≡ 0 →
-    rest.has_sum ≡ begins_sum shown →
+    rest.is_more ≡ shows_more shown →
     IsWhole first before records at → IsWhole first (before ++ line_of line) records at'
 whole_wrong first before shown line records at at' rest none now same one first_bytes wrong zero sum is =
     let empty : is.lines ≡ [] = no_lines at is.text is.lines none is.is_behind in

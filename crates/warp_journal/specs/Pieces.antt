@@ -1,6 +1,7 @@
 -- What a reading has taken.
 use Rattle.std.specs.Prelude.{◌≡◌, ◌⊎◌, ℕ, suc, ◌≤◌, ◌<◌, min, Bool, true, false, List, [], ◌++◌, length, take, Option, Some, None}
 use Rattle.warp_tag.specs.declared.form.Form.{Form}
+use Rattle.warp_tag.specs.Limits.{longest_line}
 use Rattle.warp_record.specs.Lines.{IsOneLine}
 use Rattle.warp_record.specs.declared.record.Record.{Record}
 use Rattle.warp_journal.specs.declared.journal.Journal.{Journal}
@@ -20,7 +21,7 @@ most_held = 129
 pub record IsKept (first text : List ℕ) (records : List Record) (at : Lines) : Type 0 where
   pub keeps : Keeps first at.journal text records
   pub kept : at.kept ≡ length text
-  pub number : IsOneLine first → (sums : Bool) × AreLines text at.lines sums
+  pub number : IsOneLine first → (more : Bool) × AreLines text at.lines more
   pub summed : SumsTo first text records at.summed.bytes at.summed.records
 
 -- what is known of the whole lines behind those that are kept
@@ -28,7 +29,7 @@ abbrev pub IsBehind : Form → Journal → List ℕ → List ℕ → Option Rest
 IsBehind f journal text lines None = lines ≡ []
 IsBehind f journal text lines (Some rest) =
     GoesOnWrong f journal text lines rest.fault
-    × ((behind : ℕ) × AreLines lines (suc behind) rest.has_sum × (rest.behind ≡ min behind (suc most_torn)))
+    × ((behind : ℕ) × AreLines lines (suc behind) rest.is_more × (rest.behind ≡ min behind (suc most_torn)))
 
 -- what whole lines came: those that are kept, and those behind them
 pub record IsWhole (first bytes : List ℕ) (records : List Record) (at : Lines) : Type 0 where
@@ -56,9 +57,10 @@ Reads f first bytes records reading =
     × ((behind ≡ []) ⊎ (reading.came ≡ length (line_of first)))
     × IsAt first (line_of first ++ behind) records reading)
 
--- what is said of whole lines behind those that are kept
-abbrev pub IsSaid : Rest → Ending → Type 0
-IsSaid rest (Cut why) = (why ≡ rest.fault) × (rest.has_sum ≡ false) × (rest.behind ≤ most_torn)
-IsSaid rest (Damaged why) = (why ≡ rest.fault) × ((rest.has_sum ≡ true) ⊎ (most_torn < rest.behind))
-IsSaid rest Whole = ⊥
-IsSaid rest Torn = ⊥
+-- what is said of whole lines behind those that are kept, where so many bytes are held of a torn one
+abbrev pub IsSaid : Rest → ℕ → Ending → Type 0
+IsSaid rest torn (Cut why) = (why ≡ rest.fault) × (rest.is_more ≡ false) × (rest.behind ≤ most_torn) × (torn ≤ longest_line)
+IsSaid rest torn (Damaged why) =
+    (why ≡ rest.fault) × ((rest.is_more ≡ true) ⊎ ((most_torn < rest.behind) ⊎ (longest_line < torn)))
+IsSaid rest torn Whole = ⊥
+IsSaid rest torn Torn = ⊥

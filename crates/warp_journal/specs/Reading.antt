@@ -1,6 +1,7 @@
 -- What reading the bytes of a journal keeps of them, what is said of the rest, and what a repair keeps.
-use Rattle.std.specs.Prelude.{◌≡◌, ◌≢◌, ◌⊎◌, ℕ, suc, ◌≤◌, ◌<◌, Bool, true, false, ◌||◌, List, [], ◌∷◌, ◌++◌, length, take, drop, Option, Some, None}
+use Rattle.std.specs.Prelude.{◌≡◌, ◌≢◌, ◌⊎◌, ℕ, suc, ◌≤◌, ◌<◌, nat_lt, Bool, true, false, ◌||◌, List, [], ◌∷◌, ◌++◌, length, take, drop, Option, Some, None}
 use Rattle.warp_tag.specs.declared.form.Form.{Form}
+use Rattle.warp_tag.specs.Limits.{longest_line}
 use Rattle.warp_record.specs.Lines.{IsOneLine}
 use Rattle.warp_record.specs.Record.{record_spelling}
 use Rattle.warp_record.specs.declared.record.Record.{Record}
@@ -17,11 +18,15 @@ use Rattle.warp_journal.specs.Journal.{IsWrong, Keeps, begins_sum, line_of, sum_
 abbrev pub most_torn : ℕ
 most_torn = 1024
 
--- The bytes are so many whole lines, and whether one of them begins as a sum does.
+-- no torn batch has a whole line of this text: it begins as a sum does, or is longer than a line may be
+abbrev pub shows_more : List ℕ → Bool
+shows_more text = begins_sum text || nat_lt longest_line (length text)
+
+-- The bytes are so many whole lines, and whether one of them is in no torn batch.
 pub data AreLines : List ℕ → ℕ → Bool → Type 0 where
   NoLine : AreLines [] 0 false
-  OneMore : (lines text : List ℕ) (count : ℕ) (sums : Bool) → AreLines lines count sums → IsOneLine text →
-      AreLines (lines ++ line_of text) (suc count) (sums || begins_sum text)
+  OneMore : (lines text : List ℕ) (count : ℕ) (more : Bool) → AreLines lines count more → IsOneLine text →
+      AreLines (lines ++ line_of text) (suc count) (more || shows_more text)
 
 -- The bytes begin with a whole line that goes on with no journal of this form behind what this one has, for this reason.
 abbrev pub GoesOnWrong : Form → Journal → List ℕ → List ℕ → Fault → Type 0
@@ -30,25 +35,32 @@ GoesOnWrong f journal before bytes why =
     × IsWrong f journal.tells_seconds journal.count before text why
 
 -- The bytes are whole lines, of which this is known, and perhaps a line that is not whole.
-abbrev pub IsRestOf : (ℕ → Bool → Type 0) → List ℕ → Type 0
+abbrev pub IsRestOf : (ℕ → Bool → ℕ → Type 0) → List ℕ → Type 0
 IsRestOf known bytes =
-    (lines torn : List ℕ) × (behind : ℕ) × (sums : Bool) × (bytes ≡ lines ++ torn) × AreLines lines (suc behind) sums
-    × IsOneLine torn × known behind sums
+    (lines torn : List ℕ) × (behind : ℕ) × (more : Bool) × (bytes ≡ lines ++ torn) × AreLines lines (suc behind) more
+    × IsOneLine torn × known behind more (length torn)
 
--- no more than a torn batch is: no line of it begins as a sum does, and at most 1,024 stand behind the first
-abbrev pub IsTornBatch : ℕ → Bool → Type 0
-IsTornBatch behind sums = (sums ≡ false) × (behind ≤ most_torn)
+-- No more than a torn batch is: no line of it begins as a sum does, none is longer than a line may be, also not the torn one,
+-- and at most 1,024 stand behind the first.
+abbrev pub IsTornBatch : ℕ → Bool → ℕ → Type 0
+IsTornBatch behind more torn = (more ≡ false) × (behind ≤ most_torn) × (torn ≤ longest_line)
 
 -- more is than a torn batch
-abbrev pub IsMore : ℕ → Bool → Type 0
-IsMore behind sums = (sums ≡ true) ⊎ (most_torn < behind)
+abbrev pub IsMore : ℕ → Bool → ℕ → Type 0
+IsMore behind more torn = (more ≡ true) ⊎ ((most_torn < behind) ⊎ (longest_line < torn))
+
+-- The bytes are a torn line that is longer than a line may be, and so go on with no journal, for this reason.
+abbrev pub IsLong : Form → Journal → List ℕ → List ℕ → Fault → Type 0
+IsLong f journal before bytes why =
+    IsOneLine bytes × (longest_line < length bytes) × IsWrong f journal.tells_seconds journal.count before bytes why
 
 -- what is said of the bytes behind those that are kept
 abbrev pub IsRest : Form → Journal → List ℕ → List ℕ → Ending → Type 0
 IsRest f journal before rest Whole = rest ≡ []
-IsRest f journal before rest Torn = (rest ≢ []) × IsOneLine rest
+IsRest f journal before rest Torn = (rest ≢ []) × IsOneLine rest × (length rest ≤ longest_line)
 IsRest f journal before rest (Cut why) = GoesOnWrong f journal before rest why × IsRestOf IsTornBatch rest
-IsRest f journal before rest (Damaged why) = GoesOnWrong f journal before rest why × IsRestOf IsMore rest
+IsRest f journal before rest (Damaged why) =
+    (GoesOnWrong f journal before rest why × IsRestOf IsMore rest) ⊎ IsLong f journal before rest why
 
 -- The text is a journal of these records. Up to its last sum, or where it has none its first line, it has so many bytes
 -- and so many records.
@@ -65,7 +77,7 @@ pub data SumsTo (first : List ℕ) : List ℕ → List Record → ℕ → ℕ �
 pub record IsRead (f : Form) (first bytes : List ℕ) (records : List Record) (found : Found) : Type 0 where
   pub few : found.kept ≤ length bytes
   pub keeps : Keeps first found.journal (take found.kept bytes) records
-  pub lines : IsOneLine first → (sums : Bool) × AreLines (take found.kept bytes) found.lines sums
+  pub lines : IsOneLine first → (more : Bool) × AreLines (take found.kept bytes) found.lines more
   pub summed : SumsTo first (take found.kept bytes) records found.summed.bytes found.summed.records
   pub rest : IsRest f found.journal (take found.kept bytes) (drop found.kept bytes) found.ending
 

@@ -5,8 +5,8 @@ ghost use Rattle.warp_tag.specs.declared.form.Form.{Form};
 ghost use Rattle.warp_record.specs.Lines.{IsOneLine};
 ghost use Rattle.warp_record.specs.declared.record.Record.{Record};
 ghost use Rattle.sha2.specs.Hashers.{Holds256};
-ghost use Rattle.warp_journal.specs.Journal.{IsWrong, begins_sum, line_of};
-ghost use Rattle.warp_journal.specs.Reading.{IsRead, IsRepaired, IsRest, damage_of, most_torn};
+ghost use Rattle.warp_journal.specs.Journal.{IsWrong, line_of};
+ghost use Rattle.warp_journal.specs.Reading.{IsRead, IsRepaired, IsRest, damage_of, most_torn, shows_more};
 ghost use Rattle.warp_journal.specs.Pieces.{IsAt, IsKept, IsSaid, IsWhole, Reads, most_held};
 
 use crate::journal::{Fault, Journal, fault_of, is_sum};
@@ -26,12 +26,14 @@ const MOST_HELD: usize = MAX_LINE + 1;
 pub enum Ending {
     /// Nothing.
     Whole,
-    /// A torn line, which has no line feed.
+    /// A torn line: at most 128 bytes, which have no line feed.
     Torn,
     /// A line that does not go on with the journal, for this reason, and no more than a torn batch: no line there begins
-    /// as a sum does, and at most 1,024 stand behind that one. A loss of power may leave that.
+    /// as a sum does, none has more than 128 bytes, also not a torn last one, and at most 1,024 stand behind that one. A
+    /// loss of power may leave that.
     Cut(Fault),
-    /// Such a line, and more than a torn batch: a line there begins as a sum does, or more of them stand behind.
+    /// Such a line, and more than a torn batch: a line there begins as a sum does, one has more than 128 bytes, or more of
+    /// them stand behind. Or more than 128 bytes alone that have no line feed, for this reason.
     Damaged(Fault),
 }
 
@@ -90,6 +92,14 @@ fn next_line(bytes: &[u8]) -> Option<&[u8]>
     Some(&bytes[..end])
 }
 
+/// Whether no torn batch has this line, of which these are the first 129 bytes: it begins as a sum does, or is longer than
+/// a line may be.
+fn is_beyond(text: &[u8]) -> bool
+    ensures { result ≡ shows_more text.now }
+{
+    is_sum(text) || text.len() > MAX_LINE
+}
+
 /// What came of the lines behind those that are kept.
 #[derive(Clone, Copy, Drop)]
 struct Rest {
@@ -97,30 +107,30 @@ struct Rest {
     fault: Fault,
     /// How many whole ones stand behind that one; more than 1,024 are 1,025.
     behind: u32,
-    /// Whether one of them begins as a sum does.
-    has_sum: bool,
+    /// Whether one of them is in no torn batch.
+    is_more: bool,
 }
 
 impl Rest {
-    /// Takes a whole line more, of which these are the first bytes.
+    /// Takes a whole line more, of which these are the first 129 bytes.
     fn take(&mut self, text: &[u8])
         ensures behind { (count : ℕ) → self.old.behind ≡ min count (suc most_torn) →
             self.new.behind ≡ min (suc count) (suc most_torn) }
-        ensures sums { self.new.has_sum ≡ (self.old.has_sum || begins_sum text.now) }
+        ensures more { self.new.is_more ≡ (self.old.is_more || shows_more text.now) }
         ensures fault { self.new.fault ≡ self.old.fault }
     {
         if self.behind <= MOST_TORN {
             self.behind += 1;
         }
-        let sums = is_sum(text);
-        self.has_sum = self.has_sum || sums;
+        let more = is_beyond(text);
+        self.is_more = self.is_more || more;
     }
 
-    /// What is said of them.
-    fn ending(&self) -> Ending
-        ensures { IsSaid self.now result }
+    /// What is said of them, where so many bytes are held of a torn line behind them.
+    fn ending(&self, torn: usize) -> Ending
+        ensures { IsSaid self.now torn result }
     {
-        if self.has_sum || self.behind > MOST_TORN {
+        if self.is_more || self.behind > MOST_TORN || torn > MAX_LINE {
             Ending::Damaged(self.fault)
         } else {
             Ending::Cut(self.fault)
@@ -220,7 +230,7 @@ impl Lines {
             self.rest = Some(Rest {
                 fault,
                 behind: 0,
-                has_sum: is_sum(text),
+                is_more: is_beyond(text),
             });
         }
         Ok(())
@@ -418,8 +428,12 @@ impl Reading {
             IsRest self.now.lines.form self.now.lines.journal (take self.now.lines.kept bytes)
             (drop self.now.lines.kept bytes) result }
     {
+        let torn = self.held.len();
         if let Some(rest) = self.lines.rest {
-            return rest.ending();
+            return rest.ending(torn);
+        }
+        if torn > MAX_LINE {
+            return Ending::Damaged(fault_of(&self.held));
         }
         if is_fresh(&self.held) {
             Ending::Whole

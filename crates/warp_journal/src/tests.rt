@@ -158,20 +158,29 @@ fn a_changed_byte_is_found(rt: HostRuntime) -> Result<(), Fail> {
     Ok(())
 }
 
-/// How a journal with one record ends behind which so many lines like this stand.
-fn ending_with(alloc: Global, line: &[u8], count: usize) -> Result<Ending, Fail> {
+/// How a journal with one record ends behind which these bytes stand.
+fn ending_of(alloc: Global, rest: &[u8]) -> Result<Ending, Fail> {
     let first = first_of(alloc, false)?;
     let mut text = journal(alloc, &first, 1)?;
-    for _ in 0..count {
-        text.extend_from_slice(line)?;
-        text.push(b'\n')?;
-    }
+    let kept = text.len() as u64;
+    text.extend_from_slice(rest)?;
     let (found, records) = read(alloc, &first, &text, 61)?;
-    if records.len() == 1 {
+    let sound = found.sound().bytes;
+    if records.len() == 1 && found.kept == kept && sound <= kept {
         Ok(found.ending)
     } else {
         Err(Fail::from("a line too many"))
     }
+}
+
+/// How a journal with one record ends behind which so many lines like this stand.
+fn ending_with(alloc: Global, line: &[u8], count: usize) -> Result<Ending, Fail> {
+    let mut rest = Vec::new(alloc);
+    for _ in 0..count {
+        rest.extend_from_slice(line)?;
+        rest.push(b'\n')?;
+    }
+    ending_of(alloc, &rest)
 }
 
 #[test]
@@ -185,7 +194,41 @@ fn no_more_than_a_torn_batch_is_cut(rt: HostRuntime) -> Result<(), Fail> {
         Ending::Damaged(Fault::WrongSum)
     );
     assert_eq!(rt; ending_with(alloc, b"x\n= x", 1)?, Ending::Damaged(none));
-    assert_eq!(rt; ending_with(alloc, &[0u8; 5_000], 1)?, Ending::Cut(none));
+    // A line that is longer than one may be can hide sums: no start drops it.
+    assert_eq!(rt; ending_with(alloc, &[0u8; 128], 1)?, Ending::Cut(none));
+    assert_eq!(rt; ending_with(alloc, &[0u8; 129], 1)?, Ending::Damaged(none));
+    assert_eq!(rt;
+        ending_with(alloc, &[0u8; 5_000], 1)?,
+        Ending::Damaged(none)
+    );
+    let mut later = Vec::from_slice(alloc, b"x\n")?;
+    later.extend_from_slice(&[0u8; 129])?;
+    assert_eq!(rt; ending_with(alloc, &later, 1)?, Ending::Damaged(none));
+    Ok(())
+}
+
+#[test]
+fn no_more_than_a_line_is_torn(rt: HostRuntime) -> Result<(), Fail> {
+    let alloc = rt.alloc();
+    let none = Fault::NoRecord;
+    for many in [1, 61, 128] {
+        let torn = vec![in alloc; 0u8; many]?;
+        assert_eq!(rt; ending_of(alloc, &torn)?, Ending::Torn, "{many}");
+    }
+    for many in [129, 130, 5_000] {
+        let torn = vec![in alloc; 0u8; many]?;
+        assert_eq!(rt; ending_of(alloc, &torn)?, Ending::Damaged(none), "{many}");
+    }
+    let mut sum = Vec::from_slice(alloc, b"= ")?;
+    sum.extend_from_slice(&[b'1'; 126])?;
+    assert_eq!(rt; ending_of(alloc, &sum)?, Ending::Torn);
+    sum.push(b'1')?;
+    assert_eq!(rt; ending_of(alloc, &sum)?, Ending::Damaged(Fault::WrongSum));
+    let mut behind = Vec::from_slice(alloc, b"x\n")?;
+    behind.extend_from_slice(&[0u8; 128])?;
+    assert_eq!(rt; ending_of(alloc, &behind)?, Ending::Cut(none));
+    behind.push(0)?;
+    assert_eq!(rt; ending_of(alloc, &behind)?, Ending::Damaged(none));
     Ok(())
 }
 

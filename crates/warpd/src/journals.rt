@@ -10,7 +10,8 @@ use std::alloc::{AllocError, Global};
 use std::fs::{File, Files, OpenOptions};
 use std::io::{Read, Seek};
 use warp_host::{
-    FileFault, OpenFault, keep_aside, lock_file, lock_journal, tell_file_fault, words_of,
+    FileFault, OpenFault, keep_aside, lock_file, lock_journal, refuse_special_file,
+    tell_file_fault, words_of,
 };
 use warp_journal::{Ending, Fault, Found, NotRead, Reading};
 use warp_session::{Sink, Source};
@@ -231,6 +232,7 @@ fn ascii(alloc: Global, bytes: &[u8]) -> Result<String, AllocError> {
 
 /// Tells what the journal at this path has.
 fn checked<P: Host>(rt: &P, alloc: Global, path: &str) -> Result<Account, FileFault> {
+    refuse_special_file(rt, path)?;
     let file = File::open(rt, path)?;
     let seen = see_all(alloc, file)?;
     let mut text = seen.head(alloc)?;
@@ -244,6 +246,7 @@ fn checked<P: Host>(rt: &P, alloc: Global, path: &str) -> Result<Account, FileFa
 
 /// Keeps what is whole in front of the journal at this path, moves the rest to a file beside it, and tells so.
 fn repaired<P: Host>(rt: &P, alloc: Global, path: &str) -> Result<Account, FileFault> {
+    refuse_special_file(rt, path)?;
     let _lock = lock_journal(rt, alloc, path)?;
     let file = OpenOptions::new().read(true).write(true).open(rt, path)?;
     lock_file(&file)?;

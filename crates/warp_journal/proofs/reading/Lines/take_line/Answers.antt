@@ -14,7 +14,7 @@ pub returns-in-Some-clause-takes : goal.returns-in-Some-clause-takes
 returns-in-Some-clause-takes c = λ first before line given one is whole.
     whole_behind first before c.args.text.now line _ c.args.self.now _ c.in-Some.rest c.take.new.self c.in-Some.is refl
     (record { form = refl; journal = refl; kept = refl; lines = refl; summed = refl }) one is c.take.ensures.behind
-    c.take.ensures.sums c.take.ensures.fault whole
+    c.take.ensures.more c.take.ensures.fault whole
 
 pub returns-in_default-2-clause-takes : goal.returns-in_default-2-clause-takes
 returns-in_default-2-clause-takes c = λ first before line given one is whole.
@@ -39,4 +39,4 @@ returns-in-Some-2-clause-takes c = λ first before line given one is whole.
       kept = ap (λ (l : Lines). l.kept) same.0;
       lines = ap (λ (l : Lines). l.lines) same.0;
       summed = ap (λ (l : Lines). l.summed) same.0;
-    }) one is (λ text holds. wrong text line is holds) refl c.is_sum.ensures here
+    }) one is (λ text holds. wrong text line is holds) refl c.is_beyond.ensures here
