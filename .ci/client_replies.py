@@ -179,7 +179,7 @@ def malformed():
 
 
 def malformed_words():
-    """So does what answers another word than the one that was said."""
+    """So does what answers another word than the one that was said. A token is never told."""
     words = {
         "watch log 1": lambda it: it.watch("log"), "unwatch log": lambda it: it.unwatch("log"), "release 0": lambda it: it.release(0),
     }
@@ -188,6 +188,12 @@ def malformed_words():
             with HostClient(*scripted(NAMES, told), timeout=SECONDS) as it:
                 assert ended(lambda: call(it)).startswith(f"no reply to {line!r}: ") and raises(Ended, it.horizon)
     assert ended(lambda: HostClient(*scripted(b"taken 1\n"), timeout=SECONDS, token="secret")) == "no reply to 'token ..': 'taken 1'"
+    try:
+        HostClient(*scripted(b"refused 13\n"), timeout=SECONDS, token="secret")
+    except Refused as it:
+        assert str(it) == "refused 13: this client may not send that: token .."
+    else:
+        raise AssertionError("a wrong token is taken")
 
 
 def malformed_pushes():

@@ -37,7 +37,7 @@ class Refused(Exception):
     changed."""
 
     def __init__(self, number: int, line: str):
-        super().__init__(f"refused {number}: {MEANINGS.get(number, 'unknown')}: {line}")
+        super().__init__(f"refused {number}: {MEANINGS.get(number, 'unknown')}: {_told(line)}")
         self.number, self.line = number, line
         self.meaning = MEANINGS.get(number, "unknown")
 
@@ -328,8 +328,13 @@ def _nothing(words: Sequence[str], asked: str) -> Optional[Nothing]:
 
 
 def no_reply(line: str, why: str) -> Ended:
-    """The error for what is no reply to this line; a token is not told."""
-    return Ended(f"no reply to {repr('token ..' if line.startswith('token ') else line)}{why}")
+    """The error for what is no reply to this line."""
+    return Ended(f"no reply to {_told(line)!r}{why}")
+
+
+def _told(line: str) -> str:
+    """The line as an error tells it: a token is not told."""
+    return "token .." if line.startswith("token ") else line
 
 
 def spelled(text: str) -> str:
