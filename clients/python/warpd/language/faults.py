@@ -10,6 +10,8 @@ from dataclasses import dataclass
 from .tree import At
 
 MOST_SHOWN = 50
+# Of more names those alone are compared with what was meant that begin with its letter and are as long or nearly so.
+MOST_NEAR = 512
 # Controls, marks of direction and the like, halves of characters, and ends of lines and paragraphs.
 OBEYED = {"Cc", "Cf", "Cs", "Zl", "Zp"}
 
@@ -88,6 +90,9 @@ def plain(text: str) -> str:
 
 def nearest(name: str, names: Iterable[str]) -> str:
     """A hint that names what was meant, where something is near."""
+    names = list(names)
+    if len(names) > MOST_NEAR:
+        names = [it for it in names if it[:1] == name[:1] and abs(len(it) - len(name)) < 4][:MOST_NEAR]
     found = difflib.get_close_matches(name, sorted(names), 1, 0.6)
     return f"did you mean `{found[0]}`?" if found else ""
 
