@@ -21,284 +21,34 @@ so repeats and order do no harm.
 from __future__ import annotations
 
 import bisect
-import difflib
-import io
-import json
 import socket
 import subprocess
 import time as clock
 from collections.abc import Callable, Iterable, Iterator, Sequence
 from itertools import combinations, islice, permutations
-from os import PathLike
-from typing import NamedTuple, Optional, Union
+from typing import BinaryIO, NamedTuple, Optional, Union
+
+from .replies import (
+    MEANINGS, MOST_ORIGINS, MOST_ROWS, MOST_ROWS_OF_3, MOST_VARIABLES, Announce, Board, Breach, Collected, Count, Counts, Ended, Entry,
+    Event, Horizon, Known, Names, Nothing, Output, Reached, Record, Refused, Row, Shape, Tag, Taken, Var, Withdraw, cut, no_reply,
+    record_of, reply_of, spelled,
+)
+from .wire import LONGEST, Pipes, Wire
 
 __all__ = [
-    "Announce", "Announcer", "Board", "Breach", "Broken", "Carrier", "Client", "Collected", "Count", "Counts", "Differ", "Due", "Ended", "Entry", "Event", "Frozen",
-    "Horizon", "HostClient", "Known", "Logged", "Names", "Nothing", "Output", "Push", "Record", "Refused", "Reached", "Released", "Rollback", "Row", "Shape",
-    "Skipped", "Step", "Tag", "Taken", "Var", "Variables", "Withdraw", "carry",
+    "Announce", "Announcer", "Board", "Breach", "Broken", "Carrier", "Client", "Collected", "Count", "Counts", "Differ", "Due", "Ended",
+    "Entry", "Event", "Frozen", "Horizon", "HostClient", "Known", "Logged", "Names", "Nothing", "Output", "Push", "Record", "Refused",
+    "Reached", "Released", "Rollback", "Row", "Shape", "Skipped", "Step", "Tag", "Taken", "Var", "Variables", "Withdraw", "carry",
 ]
-
-MEANINGS = {
-    1: "the line is none, or out of range", 2: "the program has no such origin", 3: "past the program's stop",
-    4: "the program has no such input", 5: "the input belongs to another origin", 6: "the program has no such variable",
-    7: "the log is full", 8: "no memory", 9: "the line is too long", 10: "busy: too many lines of this session wait",
-    11: "there is no board: only a server has one", 13: "this client may not send that", 14: "the journal cannot be written",
-}
 # So many lines are sent before their replies are read: they fit into the buffers on the way, so neither side waits for the other.
 WINDOW = 256
-# A board takes no more rows: of a program of version 3, and of one before.
-MOST_ROWS_OF_3, MOST_ROWS = 1_048_576, 4_096
 # A record that no program takes: its time is behind every stop, and before version 3 it is no line.
 BEHIND_EACH_STOP = "event 0 15625000 0 0 0"
-# No reply and no push has more bytes; of what is none, an error shows so many letters.
-LONGEST, SHOWN = 1 << 22, 200
-# No program has more, of any version.
-MOST_ORIGINS, MOST_VARIABLES = 64, 256
 # Refusals that pass: the line may be sent again.
 FOR_NOW, NOT_ALLOWED = (8, 10, 14), 13
 SYNTAX, FULL = 1, 7
 # So many tags a block has at most.
 BLOCK = 1_024
-
-
-class Refused(Exception):
-    """A line that was refused: its number (1 to 11, 13 and 14; there is no 12), what that means, and the line. Nothing was
-    changed."""
-
-    def __init__(self, number: int, line: str):
-        super().__init__(f"refused {number}: {MEANINGS.get(number, 'unknown')}: {line}")
-        self.number, self.line = number, line
-        self.meaning = MEANINGS.get(number, "unknown")
-
-
-class Ended(ConnectionError):
-    """The other side ended, or says what is no reply: what was sent last may have been taken or not."""
-
-
-class Tag(NamedTuple):
-    """A time, 0 to 15,625,000, and a microstep, 0 to 255; of a program of version 2, 0 to 10,000,001 and 0 to 255, and of
-    version 1, 0 to 1,000,001 and 0 to 15."""
-
-    time: int
-    micro: int = 0
-
-
-class Event(NamedTuple):
-    """At this tag the program input has the value, if the origin's name (origin and tag) is not withdrawn."""
-
-    origin: int
-    tag: Tag
-    input: int
-    value: int
-
-    def __str__(self) -> str:
-        return f"event {self.origin} {self.tag.time} {self.tag.micro} {self.input} {self.value}"
-
-
-class Withdraw(NamedTuple):
-    """No event of this name counts, whether it came before or comes later."""
-
-    origin: int
-    tag: Tag
-
-    def __str__(self) -> str:
-        return f"withdraw {self.origin} {self.tag.time} {self.tag.micro}"
-
-
-class Announce(NamedTuple):
-    """Before this tag the origin has so many names with an event, and with a withdrawal, and will add none."""
-
-    origin: int
-    tag: Tag
-    events: int
-    withdrawn: int
-
-    def __str__(self) -> str:
-        return f"announce {self.origin} {self.tag.time} {self.tag.micro} {self.events} {self.withdrawn}"
-
-
-Record = Union[Event, Withdraw, Announce]
-
-
-class Taken(NamedTuple):
-    """The record is new, and stands at this place of the log, from 1."""
-
-    place: int
-
-
-class Known(NamedTuple):
-    """The same record stands at this place of the log already."""
-
-    place: int
-
-
-class Var(NamedTuple):
-    log: int
-    value: int
-
-
-class Count(NamedTuple):
-    log: int
-    count: int
-
-
-class Output(NamedTuple):
-    log: int
-    tag: Tag
-    port: int
-    value: int
-
-
-class Horizon(NamedTuple):
-    log: int
-    tag: Tag
-
-
-class Breach(NamedTuple):
-    log: int
-    broken: bool
-
-
-class Entry(NamedTuple):
-    log: int
-    record: Record
-
-
-class Nothing(NamedTuple):
-    """There is no such output, or no such place in the log of this length."""
-
-    log: int
-
-
-class Collected(NamedTuple):
-    log: int
-
-
-class Counts(NamedTuple):
-    """How many names of an origin have an event, withdrawn or not, how many have a withdrawal, with an event or without, and
-    the greatest tag of these names, that of the start where there are none."""
-
-    log: int
-    origin: int
-    events: int
-    withdrawn: int
-    last: Tag
-
-
-class Reached(NamedTuple):
-    """Up to which tag the announcements of an origin are reached."""
-
-    log: int
-    origin: int
-    tag: Tag
-
-
-class Board(NamedTuple):
-    """How many rows the board has, and whether it is frozen: then no row comes any more."""
-
-    count: int
-    frozen: bool
-
-
-class Row(NamedTuple):
-    tag: Tag
-    port: int
-    value: int
-
-
-class Shape(NamedTuple):
-    """What a server shows of its program without a record: whether its lines have the ranges of version 1, how many
-    origins and how many variables there are. Programs of two shapes differ; those of one shape may."""
-
-    narrow: bool
-    origins: int
-    variables: int
-
-    def __str__(self) -> str:
-        return f"version {'1' if self.narrow else '2+'} origins {self.origins} variables {self.variables}"
-
-
-class Names(NamedTuple):
-    """What the numbers of a program stand for, as `warpd-compile` writes it to FILE.names.json: a number is the place in
-    its list. An input has the origin that owns it beside its name."""
-
-    vars: Sequence[str]
-    inputs: Sequence[tuple[int, str]]
-    outputs: Sequence[str]
-
-    @classmethod
-    def read(cls, path: Union[str, PathLike]) -> Names:
-        with open(path, encoding="utf-8") as file:
-            it = json.load(file)
-        return cls(it["vars"], [(origin, name) for origin, name in it["inputs"]], it["outputs"])
-
-    def var(self, name: Union[int, str]) -> int:
-        """The number of a variable; a number is its own. What none is called is a KeyError that tells the nearest."""
-        return name if isinstance(name, int) else self._place("variable", name, self.vars)
-
-    def input(self, name: Union[int, str]) -> int:
-        """The number of an input, in the same way."""
-        return name if isinstance(name, int) else self._place("input", name, [it for _, it in self.inputs])
-
-    def owner(self, number: int) -> int:
-        """The origin that owns the input with this number."""
-        if number not in range(len(self.inputs)):
-            raise ValueError(f"the names have no input {number}: say whose event it is, by `origin`")
-        return self.inputs[number][0]
-
-    @staticmethod
-    def _place(kind: str, name: str, names: Sequence[str]) -> int:
-        if name in names:
-            return names.index(name)
-        near = difflib.get_close_matches(name, names, 1)
-        hint = f": did you mean `{near[0]}`?" if near else "" if names else ": the client was given no names of any"
-        raise KeyError(f"no {kind} is called `{name}`{hint}")
-
-
-def record_of(words: Sequence[str]) -> Record:
-    """The record whose words these are."""
-    numbers = [int(it) for it in words[1:]]
-    origin, tag = numbers[0], Tag(*numbers[1:3])
-    if words[0] == "withdraw":
-        return Withdraw(origin, tag)
-    return {"event": Event, "announce": Announce}[words[0]](origin, tag, *numbers[3:])
-
-
-def reply_of(text: str, line: str):
-    """The value that a reply stands for; a refusal is a `Refused`, `none` is None."""
-    word, *words = text.split(" ")
-    try:
-        if word == "log":
-            return Entry(int(words[0]), record_of(words[1:]))
-        numbers = [int(it) for it in words]
-        if word == "refused":
-            return Refused(numbers[0], line)
-        if word in ("output", "horizon"):
-            return {"output": Output, "horizon": Horizon}[word](numbers[0], Tag(*numbers[1:3]), *numbers[3:])
-        if word == "counts":
-            return Counts(*numbers[:4], Tag(*numbers[4:]))
-        if word == "reached":
-            return Reached(*numbers[:2], Tag(*numbers[2:]))
-        if word == "row":
-            return Row(Tag(*numbers[:2]), *numbers[2:])
-        if word in ("breach", "board"):
-            return {"breach": Breach, "board": Board}[word](numbers[0], bool(numbers[1]))
-        if word == "none":
-            return Nothing(*numbers) if numbers else None
-        kinds = {"taken": Taken, "known": Known, "var": Var, "outputs": Count, "released": Count, "lost": Count, "collected": Collected}
-        return kinds[word](*numbers)
-    except (KeyError, IndexError, TypeError, ValueError):
-        raise Ended(f"no reply to {line!r}: {cut(text)}") from None
-
-
-def spelled(text: str) -> str:
-    """A text of others as it may be shown: what is no letter, sign or space is spelled."""
-    return "".join(it if it.isprintable() else ascii(it)[1:-1] for it in text)
-
-
-def cut(text: str) -> str:
-    """The beginning of a text, as an error shows it."""
-    return repr(text if len(text) <= SHOWN else text[:SHOWN] + "..")
 
 
 def _one_line(line: Union[str, Record]) -> str:
@@ -315,8 +65,9 @@ class Client:
     names = Names((), (), ())
 
     def __init__(self, host: str, port: int, timeout: Optional[float] = 10.0, names: Optional[Names] = None):
-        """Connects to a TCP port; `timeout` is in seconds, None for no end. With `names` a variable and an input may be
-        called by name."""
+        """Connects to a TCP port. A call has `timeout` seconds as a whole, however its bytes come, and is an `Ended` behind them; None
+        is without an end. What sends many lines has as long for each 256 of them. With `names` a variable and an input may be called
+        by name."""
         self._address, self._timeout = (host, port), timeout
         self._child: Optional[subprocess.Popen] = None
         self.names = names or self.names
@@ -325,10 +76,7 @@ class Client:
     def _connect(self) -> None:
         made = socket.create_connection(self._address, self._timeout)
         made.setsockopt(socket.IPPROTO_TCP, socket.TCP_NODELAY, 1)
-        self._begin(made.makefile("rb"), made.makefile("wb", buffering=0))
-        # Its two files keep it open.
-        made.close()
-        self._socket = made
+        self._wire = Wire(made, self._timeout)
 
     @classmethod
     def run(cls, program: str, command: Sequence[str] = ("warpd",), names: Optional[Names] = None) -> Client:
@@ -340,15 +88,11 @@ class Client:
         self._begin(self._child.stdout, self._child.stdin)
         return self
 
-    def _begin(self, replies: io.BufferedIOBase, lines: io.RawIOBase) -> None:
-        self._replies, self._lines = replies, lines
+    def _begin(self, replies: BinaryIO, lines: BinaryIO) -> None:
+        self._wire = Pipes(replies, lines)
 
     def close(self) -> None:
-        for it in (self._lines, self._replies):
-            try:
-                it.close()
-            except OSError:
-                pass
+        self._wire.close()
         if self._child:
             self._child.wait()
 
@@ -376,8 +120,9 @@ class Client:
     def _exchange(self, lines: Sequence[str]) -> list:
         data = "".join(line + "\n" for line in lines).encode()
         try:
-            self._send(data)
-            return [self._reply(line) for line in lines]
+            with self._wire.call():
+                self._send(data)
+                return [reply_of(self._text(line), line) for line in lines]
         except BaseException:
             self.close()
             raise
@@ -393,31 +138,31 @@ class Client:
         """The text of the reply to one line: for words that have no method."""
         data = _one_line(line).encode() + b"\n"
         try:
-            self._send(data)
-            return self._text(line)
+            with self._wire.call():
+                self._send(data)
+                return self._text(line)
         except BaseException:
             self.close()
             raise
 
     def _send(self, data: bytes) -> None:
         try:
-            while data:
-                data = data[self._lines.write(data):]
-            self._lines.flush()
+            self._wire.send(data)
+        except TimeoutError as late:
+            raise Ended(f"the other side takes no line {late}") from late
         except (OSError, ValueError) as error:
             raise Ended(str(error)) from error
 
     def _text(self, line: str) -> str:
         try:
-            text = self._replies.readline(LONGEST)
+            text = self._wire.line()
+        except TimeoutError as late:
+            raise no_reply(line, f" {late}") from late
         except (OSError, ValueError) as error:
             raise Ended(str(error)) from error
         if not text.endswith(b"\n"):
-            raise Ended(f"no reply to {line!r}" + f": a line of more than {LONGEST} bytes" * (len(text) == LONGEST))
+            raise no_reply(line, f": a line of more than {LONGEST} bytes" * (len(text) == LONGEST))
         return text[:-1].decode("ascii", "replace")
-
-    def _reply(self, line: str):
-        return reply_of(self._text(line), line)
 
     def event(
         self, *, time: int, input: Union[int, str], value: int, origin: Optional[int] = None, micro: int = 0
@@ -481,8 +226,9 @@ class Client:
         """What can be seen of the server's program: what is asked for past its end is refused. A host that wants a token
         shows nothing: that is a `Refused`."""
         # A program of version 1 has no line for its origin 32.
-        narrow = self._refusal(f"breach {MOST_ORIGINS - 1}") == 1
-        return Shape(narrow, self._first_refused("breach", MOST_ORIGINS), self._first_refused("var", MOST_VARIABLES))
+        with self._wire.call():
+            narrow = self._refusal(f"breach {MOST_ORIGINS - 1}") == 1
+            return Shape(narrow, self._first_refused("breach", MOST_ORIGINS), self._first_refused("var", MOST_VARIABLES))
 
     def _first_refused(self, word: str, end: int) -> int:
         """The least number below the end with which a query is refused, or the end. All greater ones are refused too."""
@@ -507,23 +253,31 @@ class Client:
 
     def records(self, start: int = 1) -> Iterator[Record]:
         """The records of the log from a place on, up to its present end."""
-        end = self.length() + 1
+        for entry in self._all("log", start, self.length() + 1):
+            yield entry.record
+
+    def _all(self, word: str, start: int, end: int) -> Iterator:
+        """What is answered by number, where each of these numbers is there: 256 a round trip."""
         for first in range(start, end, WINDOW):
-            for reply in self.many(f"log {place}" for place in range(first, min(first + WINDOW, end))):
+            lines = [f"{word} {number}" for number in range(first, min(first + WINDOW, end))]
+            for line, reply in zip(lines, self.many(lines)):
                 if isinstance(reply, Refused):
                     raise reply
-                yield reply.record
+                if reply is None or isinstance(reply, Nothing):
+                    self.close()
+                    raise no_reply(line, ", which was told to be there")
+                yield reply
 
     def released_rows(self, start: int = 0) -> Iterator[Row]:
         """The rows of the board from a number on, up to its present end."""
-        return self._rows(start, self.board().count)
+        return self._all("row", start, self.board().count)
 
     def rows(self, start: int = 0, pause: float = 0.01) -> Iterator[Row]:
         """The rows of the board from a number on, as they come, up to where the board is frozen or full. It sleeps `pause`
         seconds between two looks that found nothing; readers of the board wait for nobody, and nobody waits for them."""
         while True:
             board = self.board()
-            yield from self._rows(start, board.count)
+            yield from self._all("row", start, board.count)
             if board.frozen or board.count == MOST_ROWS_OF_3 or board.count == MOST_ROWS and not self._is_of_version_3():
                 return
             if board.count <= start:
@@ -533,10 +287,6 @@ class Client:
     def _is_of_version_3(self) -> bool:
         """Whether the program's lines have the ranges of version 3."""
         return self._refusal(BEHIND_EACH_STOP) != 1
-
-    def _rows(self, start: int, end: int) -> Iterator[Row]:
-        for first in range(start, end, WINDOW):
-            yield from self.many(f"row {number}" for number in range(first, min(first + WINDOW, end)))
 
 
 class _Tags:
@@ -611,7 +361,7 @@ class Announcer:
         self._sent: dict[Record, None] = {}
         self._unanswered: Optional[Record] = None
         # The connection over which the host has all of this.
-        self._replies = client._replies
+        self._wire = client._wire
         known = self._asked()
         if known:
             self._count(known)
@@ -670,11 +420,11 @@ class Announcer:
         """Over another connection puts what was not answered, and where the host lacks what it had all that was sent. What
         is refused now and was never answered was not taken."""
         last = self._unanswered
-        if self.client._replies is self._replies:
+        if self.client._wire is self._wire:
             if last:
                 raise Ended(f"the connection was lost with {str(last)!r} under way")
             return
-        replies = self.client._replies
+        wire = self.client._wire
         known = self._asked()
         lacks = not known or not self._is_kept(known)
         if lacks:
@@ -683,7 +433,7 @@ class Announcer:
             self._finish(last)
         if known:
             self._count(self._asked() if lacks or last else known)
-        self._replies = replies
+        self._wire = wire
 
     def _say_again(self) -> None:
         for refused in self.client.many(self._sent):
@@ -744,7 +494,7 @@ class _Server:
     """One server of a `Carrier`: its connection, its log as far as it is known, and how much of each other log it was
     given."""
 
-    def __init__(self, address: tuple[str, int], timeout: float, tell: Callable[[str], None], compare: bool):
+    def __init__(self, address: tuple[str, int], timeout: Optional[float], tell: Callable[[str], None], compare: bool):
         self.address, self.timeout, self.tell, self.compare = address, timeout, tell, compare
         self.client: Optional[Client] = None
         self.program = None
@@ -773,20 +523,29 @@ class _Server:
         for other in others:
             other.given.pop(self, None)
 
-    def read(self) -> None:
-        """Reads what is new in its log."""
-        self.log.extend(self.client.records(len(self.log) + 1))
+    def read(self, end: float) -> bool:
+        """Reads what is new in its log, up to this moment, and says whether that was all: what is left is read in the next turn."""
+        for number, record in enumerate(self.client.records(len(self.log) + 1), 1):
+            self.log.append(record)
+            if number % WINDOW == 0 and clock.monotonic() > end:
+                return False
+        return True
 
-    def give(self, other: _Server) -> int:
-        """Puts what another one has, and this one was not given; says how many records were new here."""
-        start = self.given.get(other, 0)
-        replies = self.client.many(other.log[start:])
-        held = next((at for at, it in enumerate(replies) if isinstance(it, Refused) and it.number in FOR_NOW), len(replies))
-        self.given[other] = start + held
-        for reply in replies[:held]:
-            if isinstance(reply, Refused):
-                self.meet(other, reply)
-        return sum(isinstance(it, Taken) for it in replies)
+    def give(self, other: _Server, end: float) -> int:
+        """Puts what another one has, and this one was not given, up to this moment, but 256 records at least; says how many were new
+        here."""
+        new, start = 0, self.given.get(other, 0)
+        while start < len(other.log):
+            replies = self.client.many(other.log[start:start + WINDOW])
+            held = next((at for at, it in enumerate(replies) if isinstance(it, Refused) and it.number in FOR_NOW), len(replies))
+            start = self.given[other] = start + held
+            for reply in replies[:held]:
+                if isinstance(reply, Refused):
+                    self.meet(other, reply)
+            new += sum(isinstance(it, Taken) for it in replies)
+            if held < len(replies) or clock.monotonic() > end:
+                break
+        return new
 
     def meet(self, other: _Server, refusal: Refused) -> None:
         """Tells of a refusal, once for each number and server."""
@@ -797,17 +556,19 @@ class _Server:
 
     def turn(self, servers: Sequence[_Server]) -> int:
         """Reads its log, and gives it what the others have; says how many records were new to it. A lost connection is made
-        again in the next turn, and what was refused for now is asked again there. A server that wants a token denies all
-        that is asked: it has no further turn."""
+        again in the next turn, and what was refused for now is asked again there; so is what was not read or put within the
+        timeout, so that a slow one does not hold the others. A server that wants a token denies all that is asked: it has no
+        further turn."""
         self.whole = False
         if self.denies:
             return 0
         try:
             if not self.client:
                 self.connect(servers)
-            self.read()
-            moved = sum(self.give(other) for other in servers if other is not self)
-            self.whole = True
+            end = float("inf") if self.timeout is None else clock.monotonic() + self.timeout
+            is_all = self.read(end)
+            moved = sum(self.give(other, end) for other in servers if other is not self)
+            self.whole = is_all
             return moved
         except Refused as refusal:
             if refusal.number not in FOR_NOW:
@@ -838,7 +599,8 @@ class Carrier:
     the programs are compared, as far as servers tell of them: a round raises `Differ`."""
 
     def __init__(
-        self, addresses: Sequence[tuple[str, int]], timeout: float = 10.0, tell: Callable[[str], None] = lambda _: None, compare: bool = True
+        self, addresses: Sequence[tuple[str, int]], timeout: Optional[float] = 10.0, tell: Callable[[str], None] = lambda _: None,
+        compare: bool = True,
     ):
         self._servers = [_Server(it, timeout, tell, compare) for it in addresses]
 

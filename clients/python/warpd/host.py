@@ -7,6 +7,7 @@ import re
 from typing import NamedTuple, Optional
 
 from . import Client, reply_of
+from .replies import SHOWN, cut, no_reply
 
 # A stream's first entry, which is no record.
 HEAD = re.compile(r"warpd 1 (version [12]\+? origins \d+ variables \d+) program (?:unknown|(\d+-[0-9a-f]{64}))", re.ASCII)
@@ -21,10 +22,12 @@ class Program(NamedTuple):
 
     @classmethod
     def of(cls, client: Client) -> Program:
-        """Asks; what is refused for another reason than that it knows no such word is a `Refused`."""
+        """Asks; what is refused for another reason than that it knows no such word is a `Refused`, and what is no reply an `Ended`."""
         answer = client.say("program")
         if answer.startswith("refused ") and answer != "refused 1":
             raise reply_of(answer, "program")
+        if not answer.startswith(("program ", "refused ")) or len(answer) > SHOWN:
+            raise no_reply("program", f": {cut(answer)}")
         fingerprint = "-".join(answer.split()[1:]) if answer.startswith("program ") else None
         return cls(str(client.shape()), fingerprint)
 

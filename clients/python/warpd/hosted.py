@@ -8,15 +8,21 @@
 
 from __future__ import annotations
 
-import json
-import select
+import re
 from collections import deque
 from collections.abc import Callable, Iterator
 from typing import NamedTuple, Optional, TypeVar, Union
 
 from . import Client, Counts, Ended, Horizon, Names, Output, Reached, Record, Tag, cut, record_of, reply_of
+from .replies import (
+    COUNT, FLAG, LOG, MICRO, MOST_ORIGINS, MOST_PORTS, MOST_VARIABLES, NUMBER, ORIGIN, PLACE, PORT, TIME, VALUE, json_of, no_reply,
+    number_of, numbers_of,
+)
 
 Answer = TypeVar("Answer")
+# No program has more entries pending, and no step more due.
+MOST_PENDING = 256
+FINGERPRINT = re.compile(r"[0-9a-f]{64}", re.ASCII)
 # What reading a text raises that is not of its form.
 MALFORMED = (AttributeError, KeyError, IndexError, TypeError, ValueError, RecursionError)
 # What can be watched, and where it begins where no place is given.
@@ -132,57 +138,98 @@ def _watch_line(what: str, place: Optional[int]) -> str:
     return f"watch {what}" if place is None else f"watch {what} {place}"
 
 
+def _is_number(it: object, most: int) -> bool:
+    return type(it) is int and 0 <= it <= most
+
+
+def _tag_of(told: object) -> Tag:
+    time, micro = told
+    if not _is_number(time, TIME[1]) or not _is_number(micro, MICRO[1]):
+        raise ValueError(told)
+    return Tag(time, micro)
+
+
+def _values_of(told: object, most: int) -> dict[str, int]:
+    """Values by name, so many at most."""
+    if not isinstance(told, dict) or len(told) > most or not all(type(it) is int for it in told.values()):
+        raise ValueError(told)
+    return told
+
+
+def _due_of(told: object) -> tuple[Due, ...]:
+    if not isinstance(told, list) or len(told) > MOST_PENDING:
+        raise ValueError(told)
+    due = tuple(Due(it["target"], it["value"]) for it in told)
+    if not all(isinstance(it.target, str) and type(it.value) is int for it in due):
+        raise ValueError(told)
+    return due
+
+
 def _step_of(told: dict) -> Union[Step, Rollback]:
     if "rollback" in told:
         back = told["rollback"]
-        return Rollback(Tag(*back["from"]), Tag(*back["to"]) if back["to"] else None, back["again"])
-    due = tuple(Due(it["target"], it["value"]) for it in told["due"])
-    return Step(Tag(*told["tag"]), told["given"], due, told["changed"], told["outputs"], told["pending"])
+        if not _is_number(back["again"], COUNT[1]):
+            raise ValueError(told)
+        return Rollback(_tag_of(back["from"]), None if back["to"] is None else _tag_of(back["to"]), back["again"])
+    if not _is_number(told["pending"], MOST_PENDING):
+        raise ValueError(told)
+    given, changed, outputs = (_values_of(told[key], most) for key, most in
+                               (("given", MOST_PORTS), ("changed", MOST_VARIABLES), ("outputs", MOST_PORTS)))
+    return Step(_tag_of(told["tag"]), given, _due_of(told["due"]), changed, outputs, told["pending"])
+
+
+def _released_of(words: list[str]) -> Released:
+    index, time, micro, port, value = numbers_of(words, NUMBER, TIME, MICRO, PORT, VALUE)
+    return Released(index, Tag(time, micro), port, value)
+
+
+def _horizon_of(words: list[str]) -> Horizon:
+    log, *tag = numbers_of(words, LOG, TIME, MICRO)
+    return Horizon(log, Tag(*tag))
+
+
+def _broken_of(words: list[str]) -> Broken:
+    log, *origins = numbers_of(words, LOG, *[ORIGIN] * min(len(words) - 1, MOST_ORIGINS))
+    return Broken(log, tuple(origins))
+
+
+# What each push says behind its first word, and of what it tells.
+PUSHES: dict[str, tuple[str, Callable[[list[str]], Push]]] = {
+    "log": ("log", lambda words: Logged(number_of(words[0], PLACE), record_of(words[1:]))),
+    "released": ("released", _released_of),
+    "frozen": ("released", lambda words: Frozen(*words)),
+    "vars": ("vars", lambda words: _variables_of(" ".join(words))),
+    "horizon": ("horizon", _horizon_of),
+    "breach": ("breach", _broken_of),
+    "step": ("steps", lambda words: _step_of(json_of(" ".join(words)))),
+    "skipped": ("steps", lambda words: Skipped(*numbers_of(words, COUNT))),
+}
 
 
 def _push_of(text: str) -> Optional[tuple[str, Push]]:
     """What is watched and its push; None for a farewell."""
     kind, *words = text.split(" ")
-    if kind == "log":
-        return kind, Logged(int(words[0]), record_of(words[1:]))
-    numbers = [int(it) for it in words if kind in SUBJECTS]
-    if kind == "released":
-        return kind, Released(numbers[0], Tag(*numbers[1:3]), *numbers[3:])
-    if kind == "frozen":
-        return "released", Frozen()
-    if kind == "vars":
-        return kind, Variables(numbers[0], tuple(numbers[1:]))
-    if kind == "horizon":
-        return kind, Horizon(numbers[0], Tag(*numbers[1:]))
-    if kind == "breach":
-        return kind, Broken(numbers[0], tuple(numbers[1:]))
-    if kind == "step":
-        return "steps", _step_of(json.loads(words[0]))
-    if kind == "skipped":
-        return "steps", Skipped(int(words[0]))
-    return None
-
-
-def _names_of(text: str) -> Names:
-    told = json.loads(text)
-    made = Names(told["vars"], [(int(origin), name) for origin, name in told["inputs"]], told["outputs"])
-    if not all(isinstance(name, str) for name in (*made.vars, *made.outputs, *(name for _, name in made.inputs))):
-        raise ValueError(text)
-    return made
+    if kind not in PUSHES:
+        return None
+    what, made = PUSHES[kind]
+    return what, made(words)
 
 
 def _program_of(text: str) -> Program:
     version, fingerprint = text.split(" ")
-    return Program(int(version), fingerprint)
+    if not FINGERPRINT.fullmatch(fingerprint):
+        raise ValueError(fingerprint)
+    return Program(number_of(version, (1, 99)), fingerprint)
 
 
 def _variables_of(text: str) -> Variables:
-    log, *values = map(int, text.split(" "))
+    words = text.split(" ")
+    log, *values = numbers_of(words, LOG, *[VALUE] * min(len(words) - 1, MOST_VARIABLES))
     return Variables(log, tuple(values))
 
 
 def _releases_of(text: str) -> Releases:
-    log, count, frozen = map(int, text.split(" "))
+    log, count, frozen = numbers_of(text.split(" "), LOG, COUNT, FLAG)
     return Releases(log, count, bool(frozen))
 
 
@@ -207,17 +254,18 @@ class HostClient(Client):
     def _connect(self) -> None:
         super()._connect()
         try:
-            self._greet()
-            for what, place in self._next.items():
-                self._word(_watch_line(what, place))
+            with self._wire.call():
+                self._greet()
+                for what, place in self._next.items():
+                    self._word(_watch_line(what, place), "watching")
         except BaseException:
             self.close()
             raise
 
     def _greet(self) -> None:
         if self._token is not None:
-            self._word(f"token {self._token}")
-        self.names = self._told("names", _names_of)
+            self._word(f"token {self._token}", "may")
+        self.names = self._told("names", Names.of)
 
     def _text(self, line: str) -> str:
         """The next reply; pushes in front of it are kept for who watches."""
@@ -238,21 +286,24 @@ class HostClient(Client):
             if isinstance(push, (Logged, Released)):
                 self._next[what] = push[0] + 1
 
-    def _word(self, line: str) -> str:
-        """The text of the reply to one line; a refusal is raised."""
+    def _word(self, line: str, word: str) -> str:
+        """The text of the reply to one line, which begins with this word; a refusal is raised."""
         text = self.say(line)
         if text.startswith("refused "):
             raise reply_of(text, line)
+        if text.partition(" ")[0] != word:
+            self.close()
+            raise no_reply(line, f": {cut(text)}")
         return text
 
     def _told(self, line: str, meaning: Callable[[str], Answer]) -> Answer:
         """What the reply to one line means behind its first word; the client is closed where it means nothing."""
-        text = self._word(line)
+        text = self._word(line, line)
         try:
             return meaning(text.partition(" ")[2])
         except MALFORMED:
             self.close()
-            raise Ended(f"no reply to {line!r}: {cut(text)}") from None
+            raise no_reply(line, f": {cut(text)}") from None
 
     def program(self) -> Program:
         return self._told("program", _program_of)
@@ -265,8 +316,7 @@ class HostClient(Client):
 
     def release(self, index: int) -> Optional[Output]:
         """The released output of this number, from 0."""
-        text = self._word(f"release {index}")
-        return None if text.startswith("none ") else reply_of(text.replace("release", "output", 1), "release")
+        return self._some(f"release {index}")
 
     def counts(self, origin: int) -> Counts:
         """How many names of an origin have an event, how many a withdrawal, and the greatest tag of both."""
@@ -283,7 +333,7 @@ class HostClient(Client):
         that is refused, the watch that was there goes on. A start for what has none is a ValueError."""
         place = _start_of(what, start)
         # Up to the answer pushes are those of the watch that was there; it goes on where this one is refused.
-        self._word(_watch_line(what, place))
+        self._word(_watch_line(what, place), "watching")
         self._waiting[what], self._next[what] = deque(), place
         return self._pushes(what, self._waiting[what])
 
@@ -292,14 +342,17 @@ class HostClient(Client):
             if waiting:
                 yield waiting.popleft()
                 continue
-            self._socket.settimeout(None)
             try:
+                self._coming(None)
                 self._next_push(what)
-            finally:
-                self._socket.settimeout(self._timeout)
+            except Ended:
+                self.close()
+                raise
 
     def _next_push(self, what: str) -> None:
-        text = super()._text(f"watch {what}")
+        # A line that has begun has the time of a call.
+        with self._wire.call():
+            text = super()._text(f"watch {what}")
         if not text.startswith("* "):
             raise Ended(f"no push: {cut(text)}")
         self._keep(text[2:])
@@ -317,30 +370,25 @@ class HostClient(Client):
         waiting = self._waiting[_subject(what)]
         try:
             lines = self._coming(0.0 if waiting else seconds)
-            while lines:
-                for _ in range(lines):
-                    self._next_push(what)
-                lines = self._coming(0.0)
+            with self._wire.call():
+                while lines:
+                    for _ in range(lines):
+                        self._next_push(what)
+                    lines = 0 if self._wire.is_late else self._coming(0.0)
         except BaseException:
             self.close()
             raise
         return _taken_from(waiting)
 
-    def _coming(self, seconds: float) -> int:
+    def _coming(self, seconds: Optional[float]) -> int:
         """How many lines are here, or begin to come within so many seconds; an end counts as one."""
         try:
-            self._socket.settimeout(0.0)
-            try:
-                here = self._replies.peek(1)
-            finally:
-                self._socket.settimeout(self._timeout)
-            # A line that has begun is read to its end.
-            return max(here.count(b"\n"), 1) if here else len(select.select([self._socket], [], [], seconds)[0])
+            return self._wire.coming(seconds)
         except (OSError, ValueError) as error:
             raise Ended(str(error)) from error
 
     def unwatch(self, what: str) -> None:
         """Watches it, by its name, no more."""
-        self._word(f"unwatch {_subject(what)}")
+        self._word(f"unwatch {_subject(what)}", "watching")
         self._waiting.pop(what, None)
         self._next.pop(what, None)

@@ -12,6 +12,7 @@ from typing import Optional
 from .. import Ended, cut, reply_of
 from ..host import Program
 from ..hosted import HostClient
+from ..replies import SHOWN
 
 UNKNOWN = 1
 # A host that pushed nothing for so many seconds is asked for a sign of life.
@@ -85,8 +86,8 @@ class Server(HostClient):
         kind, _, rest = text.partition(" ")
         if kind == "log":
             place, _, line = rest.partition(" ")
-            if not place.isdecimal():
-                raise Ended(f"no push: {text!r}")
+            if not place.isdecimal() or len(text) > SHOWN:
+                raise Ended(f"no push: {cut(text)}")
             self._waiting["log"].append((int(place), line))
 
     def rest(self, seconds: float) -> None:

@@ -11,6 +11,8 @@ from dataclasses import dataclass
 from .tree import At
 
 MOST_SHOWN, MOST_LISTED = 50, 3
+# Of more names those alone are compared with what was meant that begin with its letter and are as long or nearly so.
+MOST_NEAR = 512
 # Controls, marks of direction and the like, halves of characters, and ends of lines and paragraphs.
 OBEYED = {"Cc", "Cf", "Cs", "Zl", "Zp"}
 
@@ -112,6 +114,9 @@ def plain(text: str) -> str:
 
 def meant(name: str, names: Iterable[str]) -> str:
     """The name that is nearest to this one; empty where none is near."""
+    names = list(names)
+    if len(names) > MOST_NEAR:
+        names = [it for it in names if it[:1] == name[:1] and abs(len(it) - len(name)) < 4][:MOST_NEAR]
     found = difflib.get_close_matches(name, sorted(names), 1, 0.6)
     return found[0] if found else ""
 

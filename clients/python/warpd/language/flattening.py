@@ -40,6 +40,8 @@ class Flattening:
         # The program's ports that lead nowhere, and to which nothing comes.
         self.nowhere: list[Entrance] = []
         self.empty: list[Exit] = []
+        # Where what comes to a port begins, where no delay is on the way.
+        self.sources: dict[Point, Point] = {}
 
     def write(self) -> None:
         self._instances()
@@ -103,15 +105,21 @@ class Flattening:
         delays: list[int] = []
         seen = {point}
         while (edge := self.net.edges.get(point)) and point not in self.entered:
+            if point in self.sources:
+                point = self.sources[point]
+                break
+            self.program.structure.take(1, edge.at, "the connections on the way come to too many parts")
             if edge.delay is not None:
-                delays.insert(0, edge.delay)
+                delays.append(edge.delay)
             point = edge.source
             if point in seen:
                 text = f"connections lead in a circle from `{point}` to itself, and no reaction puts on it"
                 self.report.error(edge.at, text)
-                break
+                return Way(point, tuple(reversed(delays)))
             seen.add(point)
-        return Way(point, tuple(delays))
+        if not delays:
+            self.sources.update(dict.fromkeys(seen, point))
+        return Way(point, tuple(reversed(delays)))
 
     def _link(self, source: Port, delays: Sequence[int], target: Target) -> None:
         """Links two ports; where no one delay means the same as these, through reactors that hand it on."""
@@ -126,6 +134,7 @@ class Flattening:
 
     def _relay(self, path: Sequence[str], name: str, output: str, at: At) -> str:
         """The name of a new reactor that puts on its output what comes to its input."""
+        self.program.structure.take(64, at, "the connections on the way come to too many parts")
         flat = joined(path, self.program.instances)
         ports = [tree.Ports(None, it == name, (_place(it, at),), None, at) for it in (name, output)]
         body = (tree.Assign(tree.Name(output, at), None, tree.Reference(name, at)),)

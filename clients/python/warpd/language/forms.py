@@ -30,8 +30,10 @@ class Form:
     or read, `fed` those that they put on."""
 
     def __init__(self, node: Node, program: Program, report: Report):
-        self.node, self.report = node, report
+        self.node, self.report, self.program = node, report, program
         self.places = Places(node, program, report)
+        # How many parts of bodies were looked at.
+        self.walked = 0
         self.heard: dict[str, Point] = {}
         self.fed: dict[str, Point] = {}
 
@@ -46,6 +48,9 @@ class Form:
             for name, point in points.items():
                 place = tree.Place(None, tree.Name(name, it.at))
                 members.append(tree.Ports(None, is_input, (place,), _type(point), it.at))
+        again = self.walked if id(it) in self.program.seen else 0
+        self.program.structure.take(again, self.node.at, "the instances with their reactions come to too many parts")
+        self.program.seen.add(id(it))
         return dataclasses.replace(it, members=tuple(members + reactions))
 
     def _missed(self, reactions: list[tree.Reaction]) -> set[str]:
@@ -85,7 +90,9 @@ class Form:
                 found.append(place)
                 continue
             wanted, inner = (Kind.INPUT, Kind.OUTPUT) if is_read else (Kind.OUTPUT, Kind.INPUT)
-            for point in self.places.points(place, wanted, inner):
+            points = self.places.points(place, wanted, inner)
+            self.program.structure.take(len(points), place.at, "the ports that reactions name come to too many parts")
+            for point in points:
                 name = point.seen_from(self.node)
                 found.append(tree.Place(None, tree.Name(name, place.at)))
                 if place.owner:
@@ -96,6 +103,7 @@ class Form:
 
     def _of(self, it):
         """A part of a body with names in the place of places."""
+        self.walked += 1
         if isinstance(it, tuple):
             made = tuple(map(self._of, it))
             return it if all(map(lambda a, b: a is b, made, it)) else made
@@ -171,7 +179,11 @@ class Form:
                     one = dataclasses.replace(place, **{part: tree.Number(str(number), index.at)})
                     return self._select(one, inner, leaf, choose, nothing)
 
-                return _among(self._of(index), 0, self._count(place, name), chosen, choose, nothing)
+                asked, count = self._of(index), self._count(place, name)
+                text = f"the choice of `{place}` by its index comes to too many parts"
+                size = 2 * count * (2 + tree.size_of(asked, self.program.sizes))
+                self.program.structure.take(size, place.at, text, "give an index in it a name before: `let i = ..;`")
+                return _among(asked, 0, count, chosen, choose, nothing)
         node = self.places.nodes(place) if place.owner else [self.node]
         points = self.places.of(node[0], place) if node else []
         return leaf(points[0].seen_from(self.node)) if len(points) == 1 else nothing

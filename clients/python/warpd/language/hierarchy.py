@@ -109,6 +109,8 @@ class Hierarchy:
             if it.width:
                 width = self._width(node, it.width, node.raw.scope)
                 node.widths.update({place.name.text: width for place in it.places if not place.owner})
+        size = 1 + len(node.raw.tree.members) + len(node.raw.tree.parameters) + sum(node.widths.values())
+        self.program.structure.take(size, node.at, "the instances with their members and channels come to too many parts")
         for it in node.raw.tree.every(tree.Instance):
             self._instance(node, it, around)
         for name, width in node.widths.items():

@@ -3,7 +3,7 @@
 from __future__ import annotations
 
 from collections import Counter
-from collections.abc import Mapping
+from collections.abc import Collection, Mapping
 from typing import Optional
 
 from . import tree
@@ -33,20 +33,29 @@ class Writer:
         self.it, self.program, self.report = it, program, report
         self.kept: list[str] = []
 
-    def write(self) -> None:
+    def frame(self) -> None:
+        """Writes all but the bodies."""
         it, every = self.it, self.it.of.tree.every
-        reactions = [self._reaction(each) for each in every(tree.Reaction)]
-        starts = [start for each in every(tree.State) for start in self._starts(each)]
         lists = {
-            "vars": starts + [[name, 0] for name in self.kept],
+            "vars": [start for each in every(tree.State) for start in self._starts(each)],
             "inputs": list(map(it.of.file_name, it.of.names(True))),
             "outputs": list(map(it.of.file_name, it.of.names(False))),
             "actions": [[each.name.text, *self._times(each, "the delay")] for each in every(tree.Action)],
             "timers": [[each.name.text, *self._times(each, "the offset", "the period")] for each in every(tree.Timer)],
-            "reactions": reactions,
+            "reactions": [self._header(each) for each in every(tree.Reaction)],
         }
-        it.kept = len(self.kept)
         it.reactor = {"name": it.name, **{key: value for key, value in lists.items() if value}}
+
+    def bodies(self) -> None:
+        """Writes the bodies, and the variables that they take."""
+        it = self.it
+        for reaction, written in zip(it.of.tree.every(tree.Reaction), it.reactor.get("reactions", ())):
+            body = self._body(reaction)
+            written.update({"body": body} if body else {})
+        it.kept = len(self.kept)
+        if self.kept:
+            variables = it.reactor.get("vars", []) + [[name, 0] for name in self.kept]
+            it.reactor = {"name": it.name, "vars": variables, **{key: value for key, value in it.reactor.items() if key != "vars"}}
 
     def _starts(self, it: tree.State) -> list[list]:
         """The variables of a state, each with its start; of a struct one for each field."""
@@ -77,16 +86,23 @@ class Writer:
             self.kept.append(name)
         return self.kept[number]
 
-    def _reaction(self, reaction: tree.Reaction) -> dict:
+    def _header(self, reaction: tree.Reaction) -> dict:
+        """A reaction without its body."""
+        names = self.it.of.file_name
+        lists = {part: [names(place.name.text) for place in getattr(reaction, part)] for part in ("on", "reads", "writes")}
+        return {key: value for key, value in lists.items() if value}
+
+    def _body(self, reaction: tree.Reaction) -> list:
         of, scope = self.it.of, self.it.of.scope
         ports = {name: of.file_name(name) for name in of.names(True) + of.names(False)}
         names = {**self.it.constants, **scope.fields, **ports}
         outputs = {ports[name] for name in of.names(False)}
-        body = Body(names, scope.types, self.program.unit or 1, scope.named, scope.routines, outputs)
+        body = Body(names, scope.types, self.program.unit or 1, scope.named, scope.routines, outputs, self.program.bodies)
         statements = []
         try:
             statements = body.made(reaction.body or (), self._variable, reaction.at)
         except TooMany as loop:
+            self.program.bodies.left = body.left
             text = f"the loops of this reaction have more than {MOST_TURNS} turns together"
             self.report.error(loop.at, text, "a loop is written out, turn by turn; what goes on is an action")
         for at, value in body.values:
@@ -96,10 +112,7 @@ class Writer:
         for at, delay in body.delays:
             self._time(delay, at, "the delay")
         self._body_limits(reaction.at, statements)
-        lists = {
-            part: [of.file_name(place.name.text) for place in getattr(reaction, part)] for part in ("on", "reads", "writes")
-        }
-        return {key: value for key, value in {**lists, "body": statements}.items() if value}
+        return statements
 
     def _body_limits(self, at: At, statements: list) -> None:
         deep, wishes = depth_of_list(statements), schedules(statements)
@@ -112,19 +125,35 @@ class Writer:
 
 def check_limits(program: Program, report: Report) -> None:
     """Tells what the whole program has too much of."""
-    instances = program.instances.values()
-    if not instances:
+    if not program.instances:
         report.error(program.at, "the program has no reactor", "make an instance in main: `p = new Player();`")
-    for what, parts in PARTS.items():
-        each = {it.name: sum(len(it.reactor.get(part, ())) for part in parts) for it in instances}
+    for what, each in _members(program).items():
         if sum(each.values()) > MOST[what]:
             _too_many(program, report, what, each)
-    for what, places in {
-        "reactors": instances, "connections": program.links, "program inputs": program.inputs,
-        "program outputs": program.outputs,
-    }.items():
+    for what, places in _lists(program).items():
         if len(places) > MOST[what]:
             report.error([*places][MOST[what]].at, f"{len(places)} {what}, {MOST[what]} are allowed")
+
+
+def has_too_much(program: Program) -> bool:
+    """Whether so much is too much that bodies need not be written: of a few variables too many those are told that bodies take."""
+    counts = {what: sum(each.values()) for what, each in _members(program).items()}
+    counts.update((what, len(places)) for what, places in _lists(program).items())
+    return any(count > MOST[what] * (4 if what == "variables" else 1) for what, count in counts.items())
+
+
+def _members(program: Program) -> dict[str, dict[str, int]]:
+    """How many of each kind of member each instance has."""
+    instances = program.instances.values()
+    return {what: {it.name: sum(len(it.reactor.get(part, ())) for part in parts) for it in instances} for what, parts in PARTS.items()}
+
+
+def _lists(program: Program) -> dict[str, Collection]:
+    """What belongs to the whole program, by its kind."""
+    return {
+        "reactors": program.instances.values(), "connections": program.links, "program inputs": program.inputs,
+        "program outputs": program.outputs,
+    }
 
 
 def _too_many(program: Program, report: Report, what: str, each: Mapping[str, int]) -> None:

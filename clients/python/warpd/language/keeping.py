@@ -6,12 +6,14 @@ different places of a body share one variable, and so do the bodies of a reactor
 
 from __future__ import annotations
 
+from bisect import bisect_right
 from collections.abc import Callable, Iterable, Iterator
 from dataclasses import dataclass
+from heapq import heappop, heappush
 from typing import NamedTuple, Optional, Union
 
 from .tree import At
-from .values import Cell, Temp, Value
+from .values import Cell, Parts, Temp, TooLarge, Value
 
 # What has at most so many parts is put in at each of several uses, and what is at most so deep is put in at all: half
 # of the depth that a program file allows, so that an expression can be cut in two by a `let`.
@@ -56,8 +58,15 @@ class Place(NamedTuple):
 
     def is_beside(self, other: Place) -> bool:
         """Whether the two stand in different branches of one fork, so that never both are reached."""
+        return self._parts_from(other.way)
+
+    def is_before(self, way: Way, number: int) -> bool:
+        """Whether this is reached before the place with this number in these branches, where both are."""
+        return self.number < number and not self._parts_from(way)
+
+    def _parts_from(self, way: Way) -> bool:
         branches = dict(self.way)
-        return any(branches.get(fork, branch) != branch for fork, branch in other.way)
+        return any(branches.get(fork, branch) != branch for fork, branch in way)
 
 
 class Life:
@@ -67,11 +76,20 @@ class Life:
 
     def __init__(self, temp: Temp, place: Place):
         self.temp, self.place = temp, place
-        self.uses: set[Place] = set()
+        # Of the places in the same branches the last one.
+        self.uses: dict[Way, int] = {}
         self.is_used_again = self.is_kept = False
         self.reads: set[Union[str, Cell]] = set()
         self.parts, self.own_size, self.own_depth = parts_of(temp.value)
         self.size, self.depth = self.own_size, self.own_depth
+
+
+def last_uses(places: Iterable[Place]) -> dict[Way, int]:
+    """Of the places in the same branches the number of the last one."""
+    found: dict[Way, int] = {}
+    for it in places:
+        found[it.way] = max(it.number, found.get(it.way, 0))
+    return found
 
 
 def parts_of(value: Value) -> tuple[list[tuple[Union[str, Temp, Cell], int]], int, int]:
@@ -92,9 +110,11 @@ def parts_of(value: Value) -> tuple[list[tuple[Union[str, Temp, Cell], int]], in
 class Keeper:
     """Decides for one body what is kept, and writes its statements. `values` has each expression with its place."""
 
-    def __init__(self, body: list[Statement], variable: Callable[[int], str]):
-        """`variable` names the compiler's variable with this number, from 0."""
-        self.body, self.variable = body, variable
+    def __init__(self, body: list[Statement], variable: Callable[[int], str], parts: Parts, at: At):
+        """`variable` names the compiler's variable with this number, from 0. The work is counted among the `parts`, eight steps for one;
+        what is too much is told at the body's place."""
+        self.body, self.variable, self.parts, self.at = body, variable, parts, at
+        self.steps = 8 * max(parts.left, 0)
         self.lives: dict[Temp, Life] = {}
         self.direct: dict[Temp, list[Place]] = {}
         self.changes: dict[Union[str, Cell], list[Place]] = {}
@@ -109,7 +129,13 @@ class Keeper:
         if self.lives:
             self._choose()
         self._share()
+        self.parts.left = self.steps // 8
         return self._written(self.body)
+
+    def _step(self, count: int) -> None:
+        self.steps -= count
+        if self.steps < 0:
+            raise TooLarge(self.at, "the values that this reaction keeps come to too many parts", "write it as several reactions")
 
     # What there is.
 
@@ -181,7 +207,7 @@ class Keeper:
         made. Who is handed it may decide whether it is kept."""
         for temp, life in self.lives.items():
             places = self.direct.get(temp, ())
-            life.uses, life.is_used_again = set(places), len(places) > 1
+            life.uses, life.is_used_again = last_uses(places), len(places) > 1
         for temp in reversed(self.lives):
             life = self.lives[temp]
             if not life.uses:
@@ -192,7 +218,10 @@ class Keeper:
                 if isinstance(it, Temp):
                     inner = self.lives[it]
                     inner.is_used_again |= bool(inner.uses) or life.is_used_again and not life.is_kept
-                    inner.uses |= {life.place} if life.is_kept else life.uses
+                    more = {life.place.way: life.place.number} if life.is_kept else life.uses
+                    self._step(len(more))
+                    for way, number in more.items():
+                        inner.uses[way] = max(number, inner.uses.get(way, 0))
 
     def _measure_all(self, kept: Optional[set[Temp]]) -> None:
         """Works out, from the first value on, what each reads and how large it is, and keeps these values and large
@@ -213,12 +242,16 @@ class Keeper:
 
     def _is_changed(self, life: Life) -> bool:
         """Whether something that it reads may be assigned between its place and a use."""
-        last = max(it.number for it in life.uses)
+        last, first = max(life.uses.values()), life.place.number
         for name in life.reads:
-            for change in self.changes.get(name, ()):
-                if life.place.number < change.number < last and not change.is_beside(life.place):
-                    if any(change.number < use.number and not change.is_beside(use) for use in life.uses):
-                        return True
+            changes = self.changes.get(name, ())
+            for place in range(bisect_right(changes, first, key=lambda it: it.number), len(changes)):
+                change = changes[place]
+                if change.number >= last:
+                    break
+                self._step(1 + len(life.uses))
+                if not change.is_beside(life.place) and any(change.is_before(*use) for use in life.uses.items()):
+                    return True
         return False
 
     # Which variable keeps it.
@@ -228,7 +261,7 @@ class Keeper:
         spans = {it: [*span] for it, span in self.spans.items()}
         alive = []
         for temp, life in self.lives.items():
-            last = max((it.number for it in life.uses), default=0)
+            last = max(life.uses.values(), default=0)
             if life.is_kept:
                 alive.append((life.place.number, last, temp))
             for it, _ in life.parts:
@@ -237,21 +270,22 @@ class Keeper:
         return sorted([*alive, *((*span, it) for it, span in spans.items())], key=lambda it: it[:2])
 
     def _slots_needed(self) -> int:
-        ends: list[int] = []
-        for first, last, _ in self._alive():
-            self._slot(ends, first, last)
-        return len(ends)
+        return max((number + 1 for _, number in self._numbered()), default=0)
 
-    def _slot(self, ends: list[int], first: int, last: int) -> int:
-        """The first variable that is free here."""
-        number = next((place for place, end in enumerate(ends) if end <= first), len(ends))
-        ends[number:number + 1] = [last]
-        return number
+    def _numbered(self) -> Iterator[tuple[Union[Temp, Cell], int]]:
+        """Each of them with the number of its variable: the first that is free where it begins to live."""
+        busy: list[tuple[int, int]] = []
+        free: list[int] = []
+        for first, last, it in self._alive():
+            while busy and busy[0][0] <= first:
+                heappush(free, heappop(busy)[1])
+            number = heappop(free) if free else len(busy)
+            heappush(busy, (last, number))
+            yield it, number
 
     def _share(self) -> None:
-        ends: list[int] = []
-        for first, last, it in self._alive():
-            self.slots[it] = self.variable(self._slot(ends, first, last))
+        for it, number in self._numbered():
+            self.slots[it] = self.variable(number)
 
     # What is written.
 

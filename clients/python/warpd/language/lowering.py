@@ -11,7 +11,7 @@ from typing import Optional, Union
 from . import tree
 from .tree import At
 from .types import FIXED, INT, ONE, Struct, Type, common, is_fixed, number_of
-from .values import Value, made
+from .values import MOST_PARTS, TooLarge, Value, made
 
 OPERATORS = {
     "+": "+", "-": "-", "*": "*", "/": "/", "%": "%", "==": "=", "<": "<", "&&": "and", "||": "or",
@@ -24,8 +24,10 @@ class Maker:
     """Makes the expressions of one body, or constants."""
 
     def __init__(self, names: Mapping[str, Made], types: Mapping[str, Type], unit: int, named: Mapping[str, Type]):
-        self.names, self.types = dict(names), dict(types)
+        self.names, self.types = names, types
         self.unit, self.named = unit, named
+        # How many parts may still be made.
+        self.left = MOST_PARTS
 
     def once(self, value: Value, _at: At) -> Value:
         """What stands for a value in several places."""
@@ -35,6 +37,10 @@ class Maker:
         """What a call of a function of the program comes to."""
         raise KeyError(it.name.text)
 
+    def too_large(self, at: At) -> TooLarge:
+        """What is told where too much is made."""
+        return TooLarge(at, "the constants of all instances come to too many parts")
+
     def value(self, it: tree.Expression, wanted: Optional[Type] = None) -> Made:
         """The value of an expression, as one of this type."""
         made_, type = self.typed(it)
@@ -42,6 +48,9 @@ class Maker:
 
     def typed(self, it: tree.Expression) -> tuple[Made, Type]:
         """The value of an expression, and its type."""
+        self.left -= 1
+        if self.left < 0:
+            raise self.too_large(it.at)
         match it:
             case tree.Number():
                 return number_of(it.text), FIXED if is_fixed(it.text) else INT

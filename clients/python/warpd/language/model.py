@@ -3,6 +3,7 @@
 from __future__ import annotations
 
 import re
+from collections import ChainMap
 from collections.abc import Collection, Iterable
 from dataclasses import dataclass, field
 from typing import TYPE_CHECKING, NamedTuple, Optional
@@ -15,6 +16,7 @@ from .routines import Routine
 from .scope import LONGEST_NAME, Scope
 from .tree import At
 from .types import INT, Type
+from .values import Parts
 
 if TYPE_CHECKING:
     from .connecting import Net
@@ -41,6 +43,8 @@ def joined(path: Iterable[str], taken: Collection[str] = ()) -> str:
     long the longest names in it are cut."""
     parts = [re.split(r"(?=[.[])", it, maxsplit=1) for it in path]
     names, ends = [it[0] for it in parts], [re.sub(r"[.[]", "_", "".join(it[1:])).replace("]", "") for it in parts]
+    # A letter more is left, which the loop takes.
+    names = [it if len(it) <= LONGEST_NAME + 1 else it[:LONGEST_NAME + 1].rstrip("_") for it in names]
     while len(name := "_".join(map("".join, zip(names, ends)))) > LONGEST_NAME and max(map(len, names)) > 1:
         longest = max(range(len(names)), key=lambda it: len(names[it]))
         names[longest] = names[longest][:-1].rstrip("_")
@@ -62,6 +66,8 @@ class Class:
     is_good: bool = True
     is_checked: bool = False
     flat: dict[str, str] = field(default_factory=dict)
+    # The names of a program file that `flat` has given.
+    given: dict[str, str] = field(default_factory=dict)
     methods: list[Routine] = field(default_factory=list)
 
     @property
@@ -81,7 +87,8 @@ class Class:
         if "[" not in name and "." not in name:
             return name
         if name not in self.flat:
-            self.flat[name] = joined([name], {*self.scope.places, *self.flat.values()})
+            self.flat[name] = flat = joined([name], ChainMap(self.scope.places, self.given))
+            self.given[flat] = name
         return self.flat[name]
 
 
@@ -161,6 +168,12 @@ class Program:
     root: Optional[Node] = None
     net: Optional[Net] = None
     written: dict[int, tree.Reactor] = field(default_factory=dict)
+    # What may still be written out: of instances with their headers and choices by an index, and of bodies.
+    structure: Parts = field(default_factory=Parts)
+    bodies: Parts = field(default_factory=Parts)
+    # How large parts of the tree are, by their `id`; and what was worked through once, so that it counts from then on.
+    sizes: dict[int, tuple[object, int]] = field(default_factory=dict)
+    seen: set[int] = field(default_factory=set)
 
     @property
     def limits(self) -> Limits:
@@ -175,7 +188,11 @@ class Program:
 
     def lowered(self, it: tree.Expression, names: dict[str, int], scope: Scope, wanted: Optional[Type] = None) -> Made:
         """The value of a constant that was checked, as one of this type."""
-        return Maker(names, scope.types, self.unit or 1, scope.named).value(it, wanted)
+        maker = Maker(names, scope.types, self.unit or 1, scope.named)
+        maker.left = self.structure.left
+        made = maker.value(it, wanted)
+        self.structure.left = maker.left
+        return made
 
     def constant(
         self, scope: Scope, it: tree.Expression, names: dict[str, int], wanted: Optional[Type] = INT

@@ -2,6 +2,8 @@
 
 from __future__ import annotations
 
+import math
+
 from . import tree
 from .connecting import Connecting, Net, uses
 from .ending import Ending
@@ -10,18 +12,29 @@ from .flattening import Flattening
 from .forms import Form, has_structure, seen
 from .head import Head
 from .hierarchy import Hierarchy, Node
-from .instances import Writer, check_limits
+from .instances import Writer, check_limits, has_too_much
 from .model import Class, Program
 from .order import check_order
 from .reactors import checked, declared
 from .scope import count_of
 from .sources import Sources
+from .values import TooLarge
 from .warnings import warn
 
 
 def program_of(file: tree.File, sources: Sources, report: Report) -> Program:
     """The program of a tree. It means nothing where the report has an error."""
     program = Program(file.at)
+    try:
+        _write(program, file, sources, report)
+    except TooLarge as past:
+        report.error(past.at, past.text, past.hint)
+    # Tests ask for constants of it, each as long as it is written.
+    program.structure.left = math.inf
+    return program
+
+
+def _write(program: Program, file: tree.File, sources: Sources, report: Report) -> None:
     Head(file, program, report).read()
     raws = [declared(it, program, report) for it in file.reactors]
     mains = [one for one in _named(raws, report) if one.tree.is_main]
@@ -32,21 +45,23 @@ def program_of(file: tree.File, sources: Sources, report: Report) -> Program:
         hint = "`main reactor { .. }` has the instances and their connections"
         report.error(at, "there is no main reactor", hint)
         forms.every()
-        return program
+        return
     for second in mains[1:]:
         report.error(second.tree.at, "there is a main reactor already", f"at {report.place(mains[0].tree.at)}")
     root = program.root = forms.of_main(mains[0])
     forms.every()
     _connect(root, program, report)
-    for it in program.instances.values():
-        if it.of.is_good and program.is_whole:
-            Writer(it, program, report).write()
-    if not report.errors:
+    writers = [Writer(it, program, report) for it in program.instances.values() if it.of.is_good and program.is_whole]
+    for it in writers:
+        it.frame()
+    # What is too much already needs no bodies.
+    for it in () if has_too_much(program) else writers:
+        it.bodies()
+    if not report.errors and not has_too_much(program):
         Ending(program, report).write()
     for judge in (check_limits, check_order, warn):
         if not report.errors:
             judge(program, report)
-    return program
 
 
 class Forms:

@@ -18,6 +18,11 @@ KINDS = {tree.State: Kind.VARIABLE, tree.Action: Kind.ACTION, tree.Timer: Kind.T
 def declared(it: tree.Reactor, program: Program, report: Report, constants: Iterable[str] = ()) -> Class:
     """A reactor with its names alone; `constants` are there beside those of the text."""
     before = report.errors
+    for member in it.members:
+        # What another reactor extends is checked again there.
+        size = tree.size_of(member, program.sizes) if id(member) in program.seen else 0
+        program.structure.take(size, it.at, "the reactors with what they extend come to too many parts")
+        program.seen.add(id(member))
     scope = program.scope.inside()
     scope.kinds.update(dict.fromkeys(constants, Kind.CONSTANT))
     one = Class(it, scope)
@@ -35,6 +40,7 @@ def declared(it: tree.Reactor, program: Program, report: Report, constants: Iter
     one.methods = routines.declared(it.every(tree.Function), scope)
     for name, type in [*scope.types.items()]:
         if isinstance(type, Struct) and scope.kinds[name] is Kind.VARIABLE:
+            program.structure.take(len(type.fields), scope.places[name], "the fields of structs come to too many parts")
             scope.group(name, type)
     one.is_good = report.errors == before
     return one

@@ -2,6 +2,7 @@
 
 from __future__ import annotations
 
+import os
 from collections.abc import Callable
 from dataclasses import replace
 from pathlib import Path
@@ -22,6 +23,12 @@ SHARED = ("constants", "types", "functions")
 def read_text(path: Path) -> str:
     """The text of a file."""
     return path.read_text(encoding="utf-8-sig")
+
+
+def _is_below(path: Path, folder: Path) -> bool:
+    """Whether a path stays below a folder where its links lead."""
+    home = os.path.realpath(folder)
+    return os.path.commonpath([home, os.path.realpath(path)]) == home
 
 
 class Sources:
@@ -112,11 +119,19 @@ class Sources:
             self.report.error(it.at, f"more than {MOST_FILES} files are imported")
             return None
         try:
-            return self.reader(Path(self.folder, wanted))
+            found = Path(self.folder, wanted)
+            if not _is_below(found, self.folder):
+                self.report.error(it.at, f"`{it.path}` leads out of the folder of the text, by a link", "put a copy of the file there")
+            elif found.exists() and not found.is_file() and not found.is_dir():
+                self.report.error(it.at, f"`{it.path}` is no file")
+            else:
+                return self.reader(found)
         except OSError as error:
             self.report.error(it.at, f"`{it.path}` cannot be read: {error.strerror}")
         except UnicodeDecodeError:
             self.report.error(it.at, f"`{it.path}` is no text in UTF-8")
+        except ValueError:
+            self.report.error(it.at, f"`{it.path}` is no path: it has a character that stands in none")
         return None
 
     def _take(self, each: tree.Imported, it: tree.Import, there: dict, home: dict) -> None:

@@ -17,7 +17,7 @@ from .lowering import Made, Maker, converted
 from .routines import Routine, every
 from .tree import At
 from .types import INT, Struct, Type
-from .values import Cell, Temp, Value, is_simple, made
+from .values import Cell, Parts, Temp, TooLarge, Value, is_simple, made
 
 # So many turns all loops of a body may have together.
 MOST_TURNS = 1_024
@@ -69,10 +69,12 @@ class Body(Maker):
 
     def __init__(
         self, names: Mapping[str, Made], types: Mapping[str, Type], unit: int, named: Mapping[str, Type],
-        routines: Mapping[str, Routine], outputs: set[str],
+        routines: Mapping[str, Routine], outputs: set[str], parts: Parts,
     ):
-        super().__init__(names, types, unit, named)
-        self.base = dict(names), dict(types)
+        """`parts` are left for all bodies of the program together."""
+        super().__init__(dict(names), dict(types), unit, named)
+        self.left, self.parts = parts.left, parts
+        self.base = names, types
         self.routines, self.outputs = routines, outputs
         self.values: list[tuple[At, Value]] = []
         self.delays: list[tuple[At, int]] = []
@@ -80,17 +82,25 @@ class Body(Maker):
         self.turns = 0
         self.labels: dict[str, Label] = {}
         self.result: Optional[tuple[Made, Type]] = None
-        self.calling: list[str] = []
+        self.calling: list[tree.Call] = []
 
     def made(self, statements: Sequence[tree.Statement], variable: Callable[[int], str], at: At) -> list:
         """`variable` names the compiler's variable with this number, from 0; several bodies share them."""
         end = self.labels["return"] = Label(at)
         self.out.append(Mark(end, False))
         self._sequence(self._items(statements))
-        keeper = Keeper(_without_marks(self.out), variable)
+        self.parts.left = self.left
+        keeper = Keeper(_without_marks(self.out), variable, self.parts, at)
         made_ = keeper.statements()
         self.values = keeper.values
         return made_
+
+    def too_large(self, at: At) -> TooLarge:
+        if not self.calling:
+            return TooLarge(at, "the program comes to too many parts here", "a loop is written out, turn by turn, in each instance")
+        name, at = self.calling[0].name.text, self.calling[0].at
+        hint = "a function is put in where it is called, and so is what it calls: call each of them less often"
+        return TooLarge(at, f"with `{name}` put in here the program comes to too many parts", hint)
 
     # Values.
 
@@ -164,6 +174,7 @@ class Body(Maker):
         return self._sequence(items, len(items) <= MOST_NESTED).behind(label)
 
     def _statement(self, it: tree.Statement) -> Left:
+        self.left -= 1
         match it:
             case tree.Let():
                 self._let(it)
@@ -266,8 +277,8 @@ class Body(Maker):
     # Loops.
 
     def _turns(self, it: tree.Loop) -> list[int]:
-        """The numbers of the turns of a loop."""
-        name, numbers = it.first.name.text, []
+        """The numbers of the turns of a loop. What asks for them counts as a part for each, since nothing of it stays."""
+        name, numbers, left = it.first.name.text, [], self.left
         self.types[name], self.names[name] = INT, self.value(it.first.value)
         old = tree.Reference(name, it.at)
         step = tree.Binary(it.step.operator, old, it.step.value, it.at) if it.step.operator else it.step.value
@@ -277,6 +288,7 @@ class Body(Maker):
                 raise TooMany(it.at)
             numbers.append(self.names[name])
             self.names[name] = self.value(step)
+        self.left = left - len(numbers)
         return numbers
 
     def _loop(self, it: tree.Loop) -> Left:
@@ -287,6 +299,8 @@ class Body(Maker):
         return left
 
     def _turn(self, it: tree.Loop, number: int, end: Label) -> Left:
+        if self.left < 0:
+            raise self.too_large(it.at)
         self.names[it.first.name.text] = number
         self.labels = {**self.labels, "break": end, "continue": Label(it.at)}
         return self._labelled(self.labels["continue"], self._items(it.body))
@@ -294,15 +308,17 @@ class Body(Maker):
     # Functions.
 
     def called(self, it: tree.Call) -> tuple[Made, Type]:
+        if self.left < 0:
+            raise self.too_large(it.at)
         routine = self.routines[it.name.text]
         given = [self._named(self.value(part, type), part.at) for part, (_, type) in zip(it.parts, routine.parameters)]
-        if routine.name in self.calling:
+        if any(each.name.text == routine.name for each in self.calling):
             return 0, INT
         before = self.names, self.types, self.labels, self.result
         self.names, self.types = ({**base} for base in self.base)
         for (name, type), value in zip(routine.parameters, given):
             self.names[name], self.types[name] = value, type
-        self.calling.append(routine.name)
+        self.calling.append(it)
         if routine.is_expression:
             made_ = self._result([*routine.tree.body], routine.type)
         else:

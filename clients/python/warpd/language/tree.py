@@ -2,7 +2,7 @@
 
 from __future__ import annotations
 
-from dataclasses import dataclass
+from dataclasses import dataclass, is_dataclass
 from typing import NamedTuple, Optional, Union
 
 
@@ -353,3 +353,13 @@ class File:
     @property
     def at(self) -> At:
         return self.target.at if self.target else At(1, 1)
+
+
+def size_of(it: object, known: dict[int, tuple[object, int]]) -> int:
+    """How many parts a part of the tree has; one that stands at several places is counted at each. `known` keeps what was counted, by its
+    `id`, with the part itself."""
+    if id(it) not in known:
+        inner = it if type(it) is tuple else vars(it).values()
+        size = 1 + sum(size_of(each, known) for each in inner if type(each) is tuple or is_dataclass(each))
+        known[id(it)] = it, size
+    return known[id(it)][1]

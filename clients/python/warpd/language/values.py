@@ -11,6 +11,30 @@ from typing import Union
 from .tree import At
 
 LEAST, MOST = -(2**63), 2**63 - 1
+# What has more parts fits into no program file: each has more than two bytes there.
+MOST_PARTS = 524_288
+
+
+class TooLarge(Exception):
+    """What is written out comes to more than MOST_PARTS parts: where, and in which words that is told."""
+
+    def __init__(self, at: At, text: str, hint: str = ""):
+        super().__init__(text)
+        self.at, self.text, self.hint = at, f"{text}: {MOST_PARTS} are allowed", hint
+
+
+class Parts:
+    """How many parts may still be written out: names, numbers, operators, statements, members of instances. Each counts where it comes
+    to stand, and also where it is worked out and gone in the end, so that what is counted is what it costs."""
+
+    def __init__(self) -> None:
+        self.left: float = MOST_PARTS
+
+    def take(self, count: int, at: At, text: str, hint: str = "") -> None:
+        """Takes so many; where no more are left that is a `TooLarge`."""
+        self.left -= count
+        if self.left < 0:
+            raise TooLarge(at, text, hint)
 
 
 @dataclass(eq=False)
