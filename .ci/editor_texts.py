@@ -134,6 +134,18 @@ def spoilt(spoiler, dice, count):
     assert answered > count, f"only {answered} requests have an answer"
 
 
+def impossible_paths():
+    """An import by what can be no file's name is a fault of the text, and requests are answered behind it."""
+    for name in ("a\0b.lf", "a/" * 3_000 + "b.lf", "\ud800.lf"):
+        near, path = Near(), Path("/nowhere/game.lf")
+        near.open(path, f'import A from "{name}"\nmain reactor {{ a = new A(); }}\n')
+        told = [it["params"] for it in near.sent if it.get("method") == "textDocument/publishDiagnostics"]
+        assert told and told[-1]["diagnostics"], f"{name!r} is no fault: {near.sent}"
+        for method in ASKED:
+            answer = near.at(method, path, (2, 24))
+            assert "result" in answer, f"{method}: {answer}"
+
+
 # Texts that have something many times.
 MANY = {
     "blocks": ("main reactor { reaction(startup) {= ", "{ let x = x; ", "=} }"),

@@ -76,7 +76,7 @@ class Workspace:
                 text = plain(read_text(path)) if status.st_size <= MOST_BYTES else None
                 self.disk[path] = (signature, text)
             return self.disk[path][1]
-        except (OSError, UnicodeDecodeError):
+        except (OSError, ValueError):
             return None
 
     def names(self, path: Path) -> Optional[Names]:
