@@ -1,0 +1,13 @@
+mod Clients
+mod ServedLines
+mod Runs
+mod Parts
+mod OpenLines
+mod Pieces
+mod ShownBefore
+mod Serving
+mod Bounds
+mod Waiting
+mod CallSteps
+mod Hearing
+mod Older

@@ -1,0 +1,69 @@
+-- A line that is answered, or not; and lines one after another.
+use Rattle.std.proofs.Common.{◌≡◌, ◌⊎◌, ◌<◌, ◌≤◌, ℕ, length, Option, Some, None, IfSome, IfNone, Result, Ok, Err, IfOk, OnErr, OnOk, ◌↔◌, arith, ◌||◌, Bool, true, false, List, [], ◌∷◌, ◌++◌, refl, sym, ap, subst, ◌∙◌, inl, inr}
+use Rattle.std.specs.Prelude.{IsTrue}
+use Rattle.warp_line.specs.declared.progress.Progress.{Progress}
+use Rattle.warp_line.specs.declared.progress.Progress.TheVariants.{Settled, Paused}
+use Rattle.warp_replica.specs.Answered.{AnswersLine, TimelineFacts}
+use Rattle.warp_replica.specs.History.{IsServed}
+use Rattle.warp_replica.specs.Replica.{ReplicaState}
+use Rattle.warp_replica.proofs.Growing.{begins, grows}
+use Rattle.warp_watch.specs.Shown.{ShownState}
+use Rattle.warp_room.specs.declared.answers.AnsweredLine.{AnsweredLine}
+use Rattle.warp_room.specs.declared.room.Worked.{Worked}
+use Rattle.warp_room.specs.declared.room.Worked.TheVariants.{NoMemory}
+use Rattle.warp_room.specs.Room.{AreShownBefore, RoomState, history_of}
+use Rattle.warp_room.specs.Steps.{EndsTurn, EndsWork, NeedsAll, Serves, ServeEach}
+use Rattle.warp_room.proofs.ServedLines.{served_more}
+use Rattle.warp_room.proofs.ShownBefore.{shown_later}
+use Rattle.warp_step.specs.Program.{Program}
+use Rattle.warp_record.specs.declared.record.Record.{Record}
+
+module _ {T : Type 0} (facts : TimelineFacts T) where
+  -- which lines may be answered
+  pub needs : (r : ReplicaState T) (lacking settled : Bool) → settled ≡ facts.settled r.timeline
+      → (IsTrue lacking → (facts.settled r.timeline ≡ false) × facts.refused r.timeline) → NeedsAll facts r (lacking || settled)
+  needs r true settled e lacks = (λ was. refl, λ all. inr (lacks refl).1)
+  needs r false settled e lacks = (λ was. e ∙ was, λ all. inl (sym e ∙ all))
+
+  -- one more line was answered
+  pub each_more : (served : List AnsweredLine) (one : AnsweredLine) (r r' r'' : RoomState T) → ServeEach facts served r r' → Serves facts one r' r''
+      → ServeEach facts (served ++ one ∷ []) r r''
+  each_more [] one r r' r'' all last = (r'', subst (λ (x : RoomState T). Serves facts one x r'') all last, refl)
+  each_more (s ∷ served) one r r' r'' all last = (all.0, all.1, each_more served one all.0 r' r'' all.2 last)
+
+  -- the invariant of a room whose replica answered a line
+  pub kept_served : (r r' : ReplicaState T) (made : List AnsweredLine) (one : AnsweredLine) (shown : ShownState)
+      → IsServed r.program r.records (history_of made) → AreShownBefore r.program r.records shown → AnswersLine facts r one.said one.answer r'
+      → IsServed r'.program r'.records (history_of (made ++ one ∷ [])) × AreShownBefore r'.program r'.records shown
+  kept_served r r' made one shown s begun a =
+      let b = begins r.records one.answer.reply r'.records (grows r.program r.records one.said one.answer.reply r'.records a.given.gives) in (
+        served_more facts r r' made one s a,
+        subst (λ (P : Program). AreShownBefore P r'.records shown) (sym a.given.program)
+            (subst (λ (l : List Record). AreShownBefore r.program l shown) (sym b.1) (shown_later r.program r.records b.0 shown begun)),
+      )
+
+  -- one line or none
+  pub one_or_none : (most : ℕ) (r r' : RoomState T) (result : Option Worked) → 0 < most → IfNone result ((one : AnsweredLine) × Serves facts one r r')
+      → IfSome result (λ why. (r' ≡ r) × EndsTurn facts why r) → (served : List AnsweredLine) × (length served ≤ most) × ServeEach facts served r r'
+  one_or_none most r r' None some one why = (one.0 ∷ [], omega (arith, some), (r', one.1, refl))
+  one_or_none most r r' (Some worked) some one why = ([], omega arith, why.0)
+
+  pub ends_lacking : (r : RoomState T) (worked : Worked) (most : ℕ) (served : List AnsweredLine) → worked ≡ NoMemory → EndsWork facts worked most served r
+  ends_lacking r worked most served e = subst (λ (w : Worked). EndsWork facts w most served r) (sym e) (inr tt)
+
+-- one more behind a list for which room was made
+pub more_made : (made reserved pushed : List AnsweredLine) (one : AnsweredLine) → reserved ≡ made → pushed ≡ reserved ++ one ∷ [] → pushed ≡ made ++ one ∷ []
+more_made made reserved pushed one same more = more ∙ ap (λ l. l ++ one ∷ []) same
+
+-- how far execution went
+pub went_on : {E : Type 0} (result : Result Progress E) (settled : Bool) (Refused Done : Type 0) (ticks most : ℕ)
+    → IfOk result (λ p. p ≡ Settled → IsTrue settled) → OnErr result Refused
+    → IfOk result (λ p. (p ≡ Settled ↔ Done) × (p ≡ Paused → ticks ≡ most)) → IsTrue settled ⊎ (Refused ⊎ (ticks ≡ most))
+went_on (Ok Settled) settled Refused Done ticks most done lacked paused = inl (done refl)
+went_on (Ok Paused) settled Refused Done ticks most done lacked paused = inr (inr (paused.1 refl))
+went_on (Err error) settled Refused Done ticks most done lacked paused = inr (inl lacked)
+
+-- what holds anyway
+pub on_any : {A E : Type 0} (result : Result A E) (P : Type 0) → P → OnOk result P
+on_any (Ok value) P p = p
+on_any (Err error) P p = tt

@@ -1,0 +1,4 @@
+pub mod Queues
+pub mod Room
+pub mod Steps
+pub mod Codes

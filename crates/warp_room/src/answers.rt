@@ -1,0 +1,48 @@
+//! What waits to be handed on: lines that were answered, with their answers, in the order of answering.
+ghost use Rattle.std.specs.Prelude.{◌≡◌, ◌<◌, ◌≤◌, ◌∷◌, IfNone, IfSome, List};
+ghost use Rattle.warp_room.specs.Room.{is_client, without};
+ghost use Rattle.warp_room.specs.declared.answers.AnsweredLine.{AnsweredLine};
+
+use std::collections::VecDeque;
+use warp_record::Line;
+use warp_replica::Answer;
+use warp_watch::ClientId;
+
+/// A line that was answered.
+#[derive(Clone, Copy, Debug)]
+pub struct AnsweredLine {
+    /// Whose it is.
+    pub who: ClientId,
+    /// The line.
+    pub said: Line,
+    /// Its answer, with the length of the log that the line left.
+    pub answer: Answer,
+}
+
+/// Takes off the first that waits, where its answer is of a log of no more records than so many.
+pub(crate) fn next_within(waiting: &mut VecDeque<AnsweredLine>, limit: u32) -> Option<AnsweredLine>
+    ensures some { IfSome result (λ one. (waiting.old.items ≡ one ∷ waiting.new.items) × (one.answer.len ≤ limit)) }
+    ensures none { IfNone result ((one : AnsweredLine) (rest : List AnsweredLine) → waiting.old.items ≡ one ∷ rest →
+        limit < one.answer.len) }
+    ensures kept { IfNone result (waiting.new.items ≡ waiting.old.items) }
+{
+    let first = waiting.front()?;
+    if first.answer.len > limit {
+        return None;
+    }
+    waiting.pop_front()
+}
+
+/// Whether these are the same client.
+fn is_same(one: ClientId, other: ClientId) -> bool
+    ensures { result ≡ is_client one other }
+{
+    one.key == other.key && one.round == other.round
+}
+
+/// Takes off those of this client. The others stay in their order.
+pub(crate) fn forget(waiting: &mut VecDeque<AnsweredLine>, who: ClientId)
+    ensures { waiting.new.items ≡ without who waiting.old.items }
+{
+    waiting.retain(|one| !is_same(who, one.who));
+}

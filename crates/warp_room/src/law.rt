@@ -1,0 +1,95 @@
+//! Laws: what the steps of a room come to, in whatever order they happen.
+ghost use Rattle.std.specs.Prelude.{◌≡◌, ◌≢◌, ◌≤◌, ◌+◌, ◌++◌, ◌∷◌, [], ℕ, List, drop, length, map, take};
+ghost use Rattle.std.specs.List.{AllByRecursion, IsDistinct};
+ghost use Rattle.warp_record.specs.declared.line.Line.{Line};
+ghost use Rattle.warp_record.specs.declared.record.Record.{Record};
+ghost use Rattle.warp_replica.specs.Answered.{facts_of};
+ghost use Rattle.warp_replica.specs.History.{IsHistory};
+ghost use Rattle.warp_room.specs.declared.answers.AnsweredLine.{AnsweredLine};
+ghost use Rattle.warp_watch.specs.declared.client_id.ClientId.{ClientId};
+ghost use Rattle.warp_room.specs.Queues.{lines_of};
+ghost use Rattle.warp_room.specs.Room.{RoomState, history_of, is_client, of_client, open_lines};
+ghost use Rattle.warp_room.specs.Steps.{AreFew, AreOlder, HasClient, Hands, Leaves, RoomDoes, RoomRuns, RoomStep, Serves};
+ghost use Rattle.warp_room.specs.Steps.{Works, served_in};
+ghost use Rattle.warp_room.specs.declared.room.Worked.{Worked};
+
+use warp_line::Timeline;
+
+/// A room after any steps: the lines that were answered, with their answers, in their order, are a linear history of its
+/// program and log, which began with as many records as the log had before these steps. So are they where they are
+/// parted by clients, with one part for each of any clients, none twice, among which are all whose lines were answered.
+pub fn is_history<T: Timeline>()
+    ensures one { (steps : List RoomStep) (r r' : RoomState T) →
+        RoomRuns (facts_of T.settled T.refused T.floor T.SLACK) steps r r' →
+        IsHistory r'.replica.program r'.replica.records (length r.replica.records)
+        (history_of (served_in steps) ∷ []) }
+    ensures parted { (steps : List RoomStep) (r r' : RoomState T) (clients : List ClientId) →
+        RoomRuns (facts_of T.settled T.refused T.floor T.SLACK) steps r r' →
+        IsDistinct is_client clients → AllByRecursion (HasClient clients) (served_in steps) →
+        IsHistory r'.replica.program r'.replica.records (length r.replica.records)
+        (map (λ who. history_of (of_client who (served_in steps))) clients) }
+{}
+
+/// What calls do is steps: coming, leaving, hearing and handing on by their clauses, word for word; work by execution and
+/// then answers, one after another; telling as execution does. Steps and then further steps are steps.
+pub fn calls_are_steps<T: Timeline>()
+    ensures work { (lines steps : ℕ) (r r' : RoomState T) (worked : Worked)
+        (works : Works T.stands_for (facts_of T.settled T.refused T.floor T.SLACK) lines steps r worked r') →
+        RoomRuns (facts_of T.settled T.refused T.floor T.SLACK)
+        (RoomStep.Executed ∷ map (λ one. RoomStep.Answered one) works.served) r r' }
+    ensures tell { (r r' : RoomState T) → r' ≡ record r { shown = r'.shown } →
+        RoomDoes (facts_of T.settled T.refused T.floor T.SLACK) RoomStep.Executed r r' }
+    ensures joined { (first second : List RoomStep) (r between r' : RoomState T) →
+        RoomRuns (facts_of T.settled T.refused T.floor T.SLACK) first r between →
+        RoomRuns (facts_of T.settled T.refused T.floor T.SLACK) second between r' →
+        RoomRuns (facts_of T.settled T.refused T.floor T.SLACK) (first ++ second) r r' }
+{}
+
+/// The lines of a client that were heard and whose answers were not handed on, the oldest first: a line that is heard
+/// stands behind the others, answering one changes nothing, and what is handed on is the answer to the first. What is done
+/// for one client changes nothing for the others, nor does one that comes.
+pub fn oldest_first<T: Timeline>()
+    ensures heard { (r r' : RoomState T) (who : ClientId) (said : Line) →
+        RoomDoes (facts_of T.settled T.refused T.floor T.SLACK) (RoomStep.Heard who said) r r' →
+        open_lines r' who ≡ open_lines r who ++ said ∷ [] }
+    ensures answered { (r r' : RoomState T) (one : AnsweredLine) (who : ClientId) →
+        Serves (facts_of T.settled T.refused T.floor T.SLACK) one r r' → open_lines r' who ≡ open_lines r who }
+    ensures handed { (r r' : RoomState T) (limit : ℕ) (one : AnsweredLine) → Hands limit one r r' →
+        open_lines r one.who ≡ one.said ∷ open_lines r' one.who }
+    ensures left { (r r' : RoomState T) (who : ClientId) → Leaves who r r' → open_lines r' who ≡ [] }
+    ensures came { (r r' : RoomState T) (who other : ClientId) →
+        RoomDoes (facts_of T.settled T.refused T.floor T.SLACK) (RoomStep.Came who) r r' →
+        open_lines r' other ≡ open_lines r other }
+    ensures others_heard { (r r' : RoomState T) (who other : ClientId) (said : Line) → other ≢ who →
+        RoomDoes (facts_of T.settled T.refused T.floor T.SLACK) (RoomStep.Heard who said) r r' →
+        open_lines r' other ≡ open_lines r other }
+    ensures others_handed { (r r' : RoomState T) (limit : ℕ) (one : AnsweredLine) (other : ClientId) → other ≢ one.who →
+        Hands limit one r r' → open_lines r' other ≡ open_lines r other }
+    ensures others_left { (r r' : RoomState T) (who other : ClientId) → other ≢ who → Leaves who r r' →
+        open_lines r' other ≡ open_lines r other }
+{}
+
+/// At most `most_lines` lines of a client and at most `most_answers` answers wait in a room that began with so few, as a
+/// new one does, after any steps; and so many lines a client are waiting.
+pub fn few_wait<T: Timeline>()
+    ensures kept { (steps : List RoomStep) (r r' : RoomState T) →
+        RoomRuns (facts_of T.settled T.refused T.floor T.SLACK) steps r r' → AreFew r → AreFew r' }
+    ensures waiting { (r : RoomState T) (who : ClientId) → AreFew r →
+        length (lines_of r.queues.seats who) ≤ r.most_lines }
+{}
+
+/// A client that comes has no lines: all that had a seat before, and all whose answers wait, came earlier, as none did to a
+/// new room, after any steps.
+pub fn comers_are_new<T: Timeline>()
+    ensures kept { (steps : List RoomStep) (r r' : RoomState T) →
+        RoomRuns (facts_of T.settled T.refused T.floor T.SLACK) steps r r' → AreOlder r → AreOlder r' }
+    ensures none { (r r' : RoomState T) (who : ClientId) → AreOlder r →
+        RoomDoes (facts_of T.settled T.refused T.floor T.SLACK) (RoomStep.Came who) r r' → open_lines r' who ≡ [] }
+{}
+
+/// Records that are handed piece by piece, each from where the one before ended: of a log that grew meanwhile, what was
+/// handed is its first records, in order, each once.
+pub fn records_once()
+    ensures { (log more : List Record) (count most : ℕ) → count ≤ length log →
+        take count log ++ take most (drop count (log ++ more)) ≡ take (count + most) (log ++ more) }
+{}

@@ -1,0 +1,22 @@
+//! A room: a replica with what waits of its clients, in one thread. It has no socket, no thread and no clock.
+//!
+//! A line of a client waits in a queue of its own (`Room::hear`) until it is the client's turn (`Room::work`): the clients
+//! in turn, the oldest line of each first. Its answer waits until the log's records of which it tells are where the caller
+//! wants them (`Room::hand`), written or synced. A line that needs what is not executed yet waits for that, and no other
+//! does. What the lines came to is always a linear history of the replica's program and log (`is_history`).
+#![tactic(auto)]
+
+mod answers;
+mod law;
+mod queues;
+mod records;
+mod room;
+#[cfg(test)]
+mod tests;
+
+pub use answers::AnsweredLine;
+pub use law::{calls_are_steps, comers_are_new, few_wait, is_history, oldest_first, records_once};
+pub use queues::Unheard;
+pub use room::{Room, Untold, Worked};
+pub use warp_replica::Answer;
+pub use warp_watch::ClientId;
