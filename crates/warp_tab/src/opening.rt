@@ -1,0 +1,35 @@
+//! Opening a replica from the text of a program.
+ghost use Rattle.std.specs.Prelude.{◌≡◌, [], IfErr, IfOk};
+ghost use Rattle.warp_prog.specs.Load.{IsLoaded, IsRefused};
+
+use std::alloc::Global;
+use warp_line::Timeline;
+use warp_prog::{LoadError, load};
+use warp_replica::{Local, Replica};
+use warp_step::Program;
+
+/// A replica of the program that these bytes spell, which has taken no record. It grows in `alloc`.
+///
+/// # Errors
+///
+/// Those of `load`, of the same bytes; and `Memory` where there is none for the replica.
+pub fn open<T: Timeline>(alloc: Global, text: &[u8]) -> Result<Local<T>, LoadError>
+    ensures program { IfOk result (λ tab. IsLoaded text.now tab.program) }
+    ensures records { IfOk result (λ tab. tab.records ≡ []) }
+    ensures err { IfErr result (IsRefused text.now) }
+{
+    let program = load(alloc, text)?;
+    begin(alloc, program)
+}
+
+/// A replica of this program, which has taken no record.
+fn begin<T: Timeline>(alloc: Global, program: Program) -> Result<Local<T>, LoadError>
+    ensures program { IfOk result (λ tab. tab.program ≡ program) }
+    ensures records { IfOk result (λ tab. tab.records ≡ []) }
+    ensures err { IfErr result (λ error. error ≡ LoadError.Memory) }
+{
+    match Replica::new(alloc, program) {
+        Ok(replica) => Ok(Local::new(alloc, replica)),
+        Err(_) => Err(LoadError::Memory),
+    }
+}
