@@ -62,7 +62,8 @@ async function tickTo(client, from, to) {
 test("an engine answers lines, and tells values", async () => {
   const engine = await Engine.load(MODULE)
   const tab = engine.open(program("twice"))
-  assert.equal(tab.answer("event 0 5 0 0 3\nvar 0\nnonsense\nannounce 0 10 0 1 0\nannounce 1 10 0 0 0\n"), "taken 1\nvar 1 3\nrefused 1\ntaken 2\ntaken 3\n")
+  const lines = "event 0 5 0 0 3\nvar 0\nnonsense\nannounce 0 10 0 1 0\nannounce 1 10 0 0 0\n"
+  assert.equal(tab.answer(lines), "taken 1\nvar 1 3\nrefused 1\ntaken 2\ntaken 3\n")
   assert.deepEqual([...tab.vars()], [3n])
   assert.deepEqual(tab.horizon(), { time: 10, micro: 0 })
   assert.deepEqual(tab.released(), [{ index: 0, time: 5, micro: 0, output: 0, value: 3n }])
@@ -195,9 +196,10 @@ hosted("what is final is told once, in order, and never before the host's log ha
   assert.deepEqual(final, rows.map((row, at) => [at, row.time, "ball.point"]))
 })
 
-hosted("ticks that are due are executed before they come, at most so many, and a tick that is passed over is taken back", async ({ replicaOf, client }) => {
+hosted("ticks that are due are executed before they come, and one that is passed over is taken back", async ({ replicaOf, client }) => {
   let now = 0
-  const [replica, clock] = [await replicaOf({ origin: 1, now: () => now, clock: { input: "clock.tick", hertz: 100, ahead: 5 } }), client()]
+  const options = { input: "clock.tick", hertz: 100, ahead: 5 }
+  const [replica, clock] = [await replicaOf({ origin: 1, now: () => now, clock: options }), client()]
   await clock.ready
   assert.equal(replica.frame(), 0)
   now = 100

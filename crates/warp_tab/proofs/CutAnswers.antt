@@ -6,7 +6,8 @@ use Rattle.warp_session.specs.Session.{AreWholeLines, TranscribesFront}
 use Rattle.warp_tab.specs.Tab.{AnswersFront}
 
 -- what was answered are whole lines, or nothing is left behind it
-ends_so : (answered rest left : List ℕ) → AreWholeLines answered ⊎ ((rest ≡ []) × (left ≡ [])) → AreWholeLines answered ⊎ (rest ++ left ≡ [])
+ends_so : (answered rest left : List ℕ) → AreWholeLines answered ⊎ ((rest ≡ []) × (left ≡ []))
+    → AreWholeLines answered ⊎ (rest ++ left ≡ [])
 ends_so answered rest left (inl whole) = inl whole
 ends_so answered rest left (inr none) = inr (ap (λ (l : List ℕ). l ++ left) none.0 ∙ none.1)
 
