@@ -63,6 +63,9 @@ export class Replica {
   onrefused: ((record: EventRecord, error: Error) => void) | null
   /** Called when something has changed that is shown. */
   onchange: (() => void) | null
+  /** Why it follows the host no more, as want of memory; `onerror` is called with it. */
+  readonly error: Error | null
+  onerror: ((error: Error) => void) | null
   /** One's own event, here at once and to the host: at the next tick of the clock, or at `time`. */
   act(input: string | number, value: GivenValue, when?: { time?: number }): Acted
   /** Announces that no event of one's own comes any more before this tag, the next tick where none is given. */

@@ -17,6 +17,7 @@
 // have not come yet: from it comes what is shown. Where the host refuses one of these, or the clock passes over one, the second
 // engine is made a copy of the first anew.
 
+import { NoMemory } from "./engine.js"
 import { Announcer, Refused } from "./warpd.js"
 
 const MOST_MICRO = 255
@@ -119,6 +120,9 @@ export class Replica {
   onrefused = null
   /** Called when something has changed that is shown. */
   onchange = null
+  /** Why it follows the host no more, as want of memory; `onerror` is called with it. */
+  error = null
+  onerror = null
   /** How often what is shown was made anew, how many records came, how many own events were refused, and how many milliseconds
    * the last one that was taken took to be answered. */
   stats = { rebuilt: 0, records: 0, refused: 0, answered: null }
@@ -153,7 +157,10 @@ export class Replica {
     this.#follow(1)
     await this.#watch.started
     const { log } = await this.client.horizon()
-    while (this.#log.length + this.#arrived.length < log) await new Promise(resolve => setTimeout(resolve, 5))
+    while (this.#log.length + this.#arrived.length < log) {
+      if (this.error ?? this.client.error) throw this.error ?? this.client.error
+      await new Promise(resolve => setTimeout(resolve, 5))
+    }
     this.#take()
     if (this.#announcer) await this.#announcer.began
     return this
@@ -191,10 +198,29 @@ export class Replica {
     queueMicrotask(() => this.#take())
   }
 
+  /** Follows the host no more: what it has lacks records that it could not take in. */
+  #fail(error) {
+    if (this.error) return
+    this.error = error
+    this.#watch.stop().catch(() => {})
+    this.onerror?.(error)
+  }
+
   #take() {
     this.#isWaiting = false
-    if (!this.#arrived.length) return
-    const records = this.#arrived.splice(0)
+    if (!this.#arrived.length || this.error) return
+    try {
+      this.#enter(this.#arrived.splice(0))
+    } catch (error) {
+      if (!(error instanceof NoMemory)) throw error
+      return this.#fail(error)
+    }
+    this.#changed()
+    this.#tellFinals()
+  }
+
+  /** Enters records of the host's log. */
+  #enter(records) {
     const lines = records.map(lineOf)
     let isAnew = false
     for (const record of records) {
@@ -206,8 +232,6 @@ export class Replica {
     this.#give(this.#truth, lines)
     if (isAnew) this.#rebuild()
     else this.#give(this.#shown, lines)
-    this.#changed()
-    this.#tellFinals()
   }
 
   #give(tab, lines) {

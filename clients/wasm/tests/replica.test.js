@@ -245,3 +245,44 @@ hosted("a connection that is lost is made again, and the log goes on", async ({ 
   await until(() => replica.records === 2 && replica.vars["ann.goes"] === -1n)
   assert.deepEqual(replica.confirmed, await hostVars(fresh, 2))
 })
+
+hosted("where memory ends it follows no more, and says so", async ({ engine, client, host }) => {
+  const real = engine.another()
+  let isFull = false
+  // An engine that has no memory from some moment on.
+  const full = {
+    another: () => full,
+    copy() {},
+    open(text) {
+      const tab = real.open(text)
+      const answer = lines => {
+        if (isFull) throw new NoMemory()
+        return tab.answer(lines)
+      }
+      const opened = { answer, within: () => opened, vars: () => tab.vars(), horizon: () => tab.horizon(), released: () => [], drop() {} }
+      return opened
+    },
+  }
+  const replica = new Replica(client(), { engine: full, program: PONG })
+  await replica.ready
+  const told = []
+  replica.onerror = error => told.push(error.name)
+  isFull = true
+  const clock = client()
+  await clock.ready
+  await tickTo(clock, 1, 3)
+  await until(() => told.length)
+  await tickTo(clock, 4, 5)
+  assert.deepEqual([told, replica.error instanceof NoMemory], [["NoMemory"], true])
+})
+
+hosted("who is closed before the log has come is told so", async ({ client, replicaOf }) => {
+  const other = client()
+  await other.ready
+  await tickTo(other, 1, 2)
+  const closed = client()
+  const replica = new Replica(closed, { engine: await Engine.load(MODULE), program: PONG })
+  closed.close()
+  await assert.rejects(replica.ready)
+  assert.equal((await replicaOf({})).records, 2)
+})
