@@ -46,6 +46,8 @@ export class Engine {
   copy(other: Engine): void
   /** Opens a replica of a program, from the text or the bytes of its file. Throws `ProgramRefused`. */
   open(program: string | Uint8Array): Tab
+  /** The fingerprint of the program that the text or the bytes of its file spell, as a host tells it. Throws `ProgramRefused`. */
+  fingerprint(program: string | Uint8Array): string
   /** How many bytes its memory has. */
   readonly size: number
   /** For tests: the request for memory of this number from now on is refused, once. It gives what was left of the last number. */

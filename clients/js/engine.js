@@ -16,6 +16,7 @@ const TOO_LONG = -9
 const FIRST_ROOM = 65_536
 const PAGE = 65_536
 const OUTPUT = 4
+const DIGITS = 64
 
 const encoder = new TextEncoder()
 const decoder = new TextDecoder()
@@ -137,6 +138,17 @@ export class Engine {
     const refused = memory.calls.tab_open(room + 8, BigInt(bytes.length), room)
     if (refused) throw new ProgramRefused(refused)
     return new Tab(memory, memory.words(room, 1)[0])
+  }
+
+  /** The fingerprint of the program that the text or the bytes of its file spell, as a host tells it. Throws `ProgramRefused`. */
+  fingerprint(program) {
+    const memory = this.#memory
+    const bytes = typeof program === "string" ? encoder.encode(program) : program
+    const room = memory.room(bytes.length + DIGITS)
+    memory.bytes(room + DIGITS, bytes.length).set(bytes)
+    const count = Number(memory.calls.tab_fingerprint(room + DIGITS, BigInt(bytes.length), room, BigInt(DIGITS)))
+    if (count < 0) throw new ProgramRefused(-count)
+    return decoder.decode(memory.bytes(room, count).slice())
   }
 
   /** How many bytes its memory has. */

@@ -48,13 +48,19 @@ export interface ReplicaStats {
   answered: number | null
 }
 
+/** The program that was handed in is not the one that the host has, whose fingerprint is `host`. */
+export class OtherProgram extends Error {
+  constructor(host: string)
+  readonly host: string
+}
+
 /** A replica of a host's program in this process. */
 export class Replica {
   constructor(client: Client, options: ReplicaOptions)
   readonly client: Client
   readonly origin: number | null
   readonly now: () => number
-  /** Resolved once it has the log that the host had when it was asked. */
+  /** Resolved once it has the log that the host had when it was asked; rejected with `OtherProgram` where that has another program. */
   readonly ready: Promise<Replica>
   readonly stats: ReplicaStats
   /** Called with each output that is final, in order. */

@@ -31,6 +31,15 @@ const lineOf = ({ kind, origin, time, micro, input, value, events, withdrawn }) 
   return `${kind} ${origin} ${time} ${micro}${behind}`
 }
 
+/** The program that was handed in is not the one that the host has, whose fingerprint is `host`. */
+export class OtherProgram extends Error {
+  constructor(host) {
+    super(`the host has another program, ${host}`)
+    this.name = "OtherProgram"
+    this.host = host
+  }
+}
+
 /** The ticks of a clock that another origin sends: which are due here, and which were executed before they came. */
 class Clock {
   #samples = []
@@ -142,7 +151,7 @@ export class Replica {
     this.#program = program
     this.#truth = this.#engine.open(program)
     this.#fork()
-    /** Resolved once it has the log that the host had when it was asked. */
+    /** Resolved once it has the log that the host had when it was asked; rejected with `OtherProgram` where that has another program. */
     this.#clockOptions = clock
     this.ready = this.#begin()
     this.ready.catch(() => {})
@@ -150,6 +159,8 @@ export class Replica {
 
   async #begin() {
     await this.client.ready
+    const { fingerprint } = await this.client.program()
+    if (fingerprint !== this.#engine.fingerprint(this.#program)) throw new OtherProgram(fingerprint)
     this.#names = this.client.names
     this.#setClock()
     if (this.origin !== null) this.#announcer = new Announcer(this.client, this.origin)

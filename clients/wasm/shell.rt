@@ -10,7 +10,7 @@ use std::io::Read;
 use std::process::ExitCode;
 use warp_replica::Local;
 use warp_run::Warp;
-use warp_tab::{Unanswered, answer, horizon, open, released, vars};
+use warp_tab::{Unanswered, answer, fingerprint, horizon, open, released, vars};
 use warp_tag::Out;
 
 /// What is answered in the place of a count where lines are too long.
@@ -59,6 +59,21 @@ pub extern "C" fn tab_open(alloc: Global, program: &[u8], tab: &mut *mut u8) -> 
     match open::<Warp>(alloc, program) {
         Ok(local) => keep(alloc, local, tab),
         Err(error) => u32::from(error.number()),
+    }
+}
+
+/// Copies the fingerprint of the program that these bytes spell, as far as there is room, and tells how many bytes it has; or
+/// the number of the fault, below 0.
+#[unsafe(no_mangle)]
+pub extern "C" fn tab_fingerprint(alloc: Global, program: &[u8], room: &mut [u8]) -> i64 {
+    match fingerprint(alloc, program) {
+        Ok(digits) => {
+            let bytes = digits.as_bytes();
+            let count = room.len().min(bytes.len());
+            room[..count].copy_from_slice(&bytes[..count]);
+            bytes.len() as i64
+        }
+        Err(error) => -(error.number() as i64),
     }
 }
 
@@ -176,7 +191,9 @@ fn main(rt: HostRuntime) -> ExitCode {
         return ExitCode::from(2);
     }
     let mut room = [0i64; 8];
-    let told = tab_answer(alloc, tab, b"horizon\n")
+    let mut digits = [0u8; 64];
+    let told = tab_fingerprint(alloc, b"{}", &mut digits)
+        + tab_answer(alloc, tab, b"horizon\n")
         + tab_replies(alloc, tab, 0, &mut bytes)
         + tab_vars(alloc, tab, &mut room)
         + tab_horizon(alloc, tab, &mut room)

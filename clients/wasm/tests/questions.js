@@ -61,12 +61,13 @@ function told(tab, { lines, isSingly }, engine) {
 }
 
 function answered(question, engine) {
+  const program = bytesOf(question.program)
   engine.refuse(question.refuse)
   try {
-    const tab = engine.open(bytesOf(question.program))
+    const tab = engine.open(program)
     const answer = told(tab, question, engine)
     tab.drop()
-    return answer
+    return { ...answer, fingerprint: engine.fingerprint(program) }
   } catch (error) {
     if (error instanceof ProgramRefused) return { refused: error.number, left: engine.refuse(0) }
     throw error

@@ -5,7 +5,7 @@ import assert from "node:assert/strict"
 import { readFileSync } from "node:fs"
 import { test } from "node:test"
 import { Engine, NoMemory, ProgramRefused } from "../../js/engine.js"
-import { Replica } from "../../js/replica.js"
+import { OtherProgram, Replica } from "../../js/replica.js"
 import { Announcer, Client } from "../../js/warpd.js"
 import { Host, SECONDS, WebSocket, fileOf, freePort } from "../../js/tests/hosting.js"
 
@@ -253,6 +253,7 @@ hosted("where memory ends it follows no more, and says so", async ({ engine, cli
   const full = {
     another: () => full,
     copy() {},
+    fingerprint: text => real.fingerprint(text),
     open(text) {
       const tab = real.open(text)
       const answer = lines => {
@@ -285,4 +286,12 @@ hosted("who is closed before the log has come is told so", async ({ client, repl
   closed.close()
   await assert.rejects(replica.ready)
   assert.equal((await replicaOf({})).records, 2)
+})
+
+hosted("a program that is not the host's is refused, and one that is only laid out in another way is not", async ({ client, engine }) => {
+  const other = new Replica(client(), { engine, program: program("pong") })
+  await assert.rejects(other.ready, error => error instanceof OtherProgram && /^[0-9a-f]{64}$/.test(error.host))
+  const same = new Replica(client(), { engine, program: JSON.stringify(JSON.parse(PONG), null, 2) })
+  assert.equal((await same.ready).records, 0)
+  assert.throws(() => engine.fingerprint("{}"), error => error instanceof ProgramRefused && error.number === 2)
 })

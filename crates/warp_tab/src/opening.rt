@@ -1,10 +1,11 @@
-//! Opening a replica from the text of a program.
-ghost use Rattle.std.specs.Prelude.{◌≡◌, [], IfErr, IfOk};
+//! Opening a replica from the text of a program, and which program that is.
+ghost use Rattle.std.specs.Prelude.{◌≡◌, ℕ, [], IfErr, IfOk, List, string_bytes};
+ghost use Rattle.warp_prog.specs.Canonical.{IsCanonical, fingerprint_of};
 ghost use Rattle.warp_prog.specs.Load.{IsLoaded, IsRefused};
 
 use std::alloc::Global;
 use warp_line::Timeline;
-use warp_prog::{LoadError, load};
+use warp_prog::{LoadError, load, load_named};
 use warp_replica::{Local, Replica};
 use warp_step::Program;
 
@@ -30,6 +31,31 @@ fn begin<T: Timeline>(alloc: Global, program: Program) -> Result<Local<T>, LoadE
 {
     match Replica::new(alloc, program) {
         Ok(replica) => Ok(Local::new(alloc, replica)),
+        Err(_) => Err(LoadError::Memory),
+    }
+}
+
+/// The fingerprint of the program that these bytes spell, as a host tells it: 64 hex digits of small letters.
+///
+/// # Errors
+///
+/// Those of `load`, of the same bytes.
+pub fn fingerprint(alloc: Global, text: &[u8]) -> Result<String, LoadError>
+    ensures digits { IfOk result (λ digits. (canonical : List ℕ) × IsCanonical text.now canonical
+        × (string_bytes digits ≡ fingerprint_of canonical)) }
+    ensures err { IfErr result (IsRefused text.now) }
+{
+    let named = load_named(alloc, text)?;
+    digits_of(alloc, named.canonical.as_str())
+}
+
+/// The fingerprint of a program with this canonical text.
+fn digits_of(alloc: Global, canonical: &str) -> Result<String, LoadError>
+    ensures digits { IfOk result (λ digits. string_bytes digits ≡ fingerprint_of canonical.now) }
+    ensures err { IfErr result (λ error. error ≡ LoadError.Memory) }
+{
+    match warp_prog::fingerprint(alloc, canonical) {
+        Ok(digits) => Ok(digits),
         Err(_) => Err(LoadError::Memory),
     }
 }

@@ -8,7 +8,7 @@ use Rattle.warp_tab.proofs.answering.answer_in.Goals as goal
 pub returns-in-WriteFault-clause-cut : goal.returns-in-WriteFault-clause-cut
 returns-in-WriteFault-clause-cut g c = λ _.
     subst (λ (bytes : List ℕ).
-        AnswersFront c.args.tab.now.program.form (local_state c.args.tab.now) bytes (local_state c.session.new.desk))
+    AnswersFront c.args.tab.now.program.form (local_state c.args.tab.now) bytes (local_state c.session.new.desk))
     c.new-source.ensures
     (cut_of c.args.tab.now.program.form (local_state c.args.tab.now) (local_state c.session.new.desk)
     c.new-source.result.rest.now c.session.new.source.rest.now
