@@ -15,6 +15,7 @@ STORE = re.compile(r"(\s+)store ptr (\S+), ptr (\S+), align (\d+)(.*)$")
 LOAD = re.compile(r"(\s+)(%\S+) = load ptr, ptr (\S+), align (\d+)(.*)$")
 LOAD_PAIR = re.compile(r"(\s+)(%\S+) = load \{ (\w+), (\w+) \}, ptr (\S+), align (\d+)(.*)$")
 ACCESS = re.compile(r"\s+(?:%\S+ = )?(?:load|store) (.*), ptr ")
+FUNCTION = re.compile(r'define internal .*?@"(\w+)::.*\) (?:noinline )?(?=#\d+ \{$)')
 OPENS, CLOSES = "([{<", ")]}>"
 
 
@@ -22,8 +23,9 @@ class Unknown(Exception):
     """A line of a form that is not known."""
 
 
-def edited(lines, crate, calls):
-    """The lines of a module's text, edited; these functions of this crate are what it gives to others."""
+def edited(lines, crate, calls, small):
+    """The lines of a module's text, edited; these functions of this crate are what it gives to others, and those of the crates
+    `small` are to be short, and not fast."""
     names = {f'@"{crate}::{it}"': f"@{it}" for it in calls}
     count = 0
     for line in lines:
@@ -37,7 +39,7 @@ def edited(lines, crate, calls):
         if line.startswith("attributes #"):
             yield re.sub(r"\{\s*\}", "{ nounwind }", OF_MACHINE.sub("", line))
             continue
-        yield from in_memory(renamed(line, names), count)
+        yield from in_memory(shortened(renamed(line, names), small), count)
 
 
 def renamed(line, names):
@@ -50,6 +52,14 @@ def renamed(line, names):
                 line = line.replace("define internal ", "define dso_local ", 1)
             line = line.replace(name, plain)
     return line
+
+
+def shortened(line, small):
+    """A line that asks for a short function, where it begins one of these crates."""
+    found = FUNCTION.match(line)
+    if not found or found[1] not in small:
+        return line
+    return f"{line[:found.end()]}minsize optsize {line[found.end():]}"
 
 
 def in_memory(line, count):

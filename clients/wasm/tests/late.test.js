@@ -18,6 +18,7 @@ const PONG = JSON.stringify({
 const DELAY = 60
 const HERTZ = 60
 const PLAYED = 4_000
+const ACTS = 12
 const sleep = milliseconds => new Promise(resolve => setTimeout(resolve, milliseconds))
 
 /** Numbers that look drawn, the same each time. */
@@ -110,7 +111,7 @@ class Player {
   frame() {
     this.replica.frame()
     this.#frames += 1
-    if (this.draw(12) === 0) this.act()
+    if (this.draw(8) === 0) this.act()
     if (this.#frames % 16 === 0) this.replica.announce().catch(() => {})
   }
 
@@ -147,17 +148,18 @@ test("players over late connections, one of which breaks", { timeout: 4 * SECOND
     const ticker = new Ticker(near)
     const began = performance.now()
     let isBroken = false
-    while (performance.now() - began < PLAYED) {
+    // A machine that has other work shows fewer pictures: so it is played until each has acted so often.
+    const isPlayed = part => performance.now() - began > part * PLAYED && players.every(it => it.acts.length >= part * ACTS)
+    while (!isPlayed(1)) {
       ticker.due()
       for (const player of players) player.frame()
-      if (!isBroken && performance.now() - began > PLAYED / 2) {
+      if (!isBroken && isPlayed(0.5)) {
         isBroken = true
         Late.made[0].break()
       }
       await sleep(8)
     }
     const acts = players.flatMap(it => it.acts)
-    assert.ok(acts.length > 10, `${acts.length} acts`)
     assert.deepEqual(acts.map(it => it.shown), acts.map(it => it.value))
     const answers = await Promise.all(acts.map(it => it.answered))
     assert.ok(answers.every(it => it !== null))
