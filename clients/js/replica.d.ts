@@ -1,0 +1,95 @@
+import type { Client, EventRecord, GivenValue, Tag, Taken, Value } from "./warpd.js"
+import type { Engine } from "./engine.js"
+
+/** An input that another origin ticks. */
+export interface ClockOptions {
+  input: string | number
+  /** What its events have; 1 where it is left out. */
+  value?: GivenValue
+  /** Ticks a second; 60 where it is left out. */
+  hertz?: number
+  /** How many ticks past the last that came are executed at most; those of a second where it is left out. */
+  ahead?: number
+  /** How many ticks before they are due. */
+  lead?: number
+}
+
+export interface ReplicaOptions {
+  /** Of its module two more are made. */
+  engine: Engine
+  /** The text of the host's program's file. */
+  program: string
+  /** Whose events are sent, where any are. */
+  origin?: number | null
+  clock?: ClockOptions | null
+  /** What time it is, in milliseconds. */
+  now?: () => number
+}
+
+export interface Acted extends EventRecord {
+  /** What the host answered, or null where it refused it. */
+  answered: Promise<Taken | null>
+}
+
+export interface FinalOutput extends Tag {
+  index: number
+  output: string | number
+  value: Value
+}
+
+export interface ReplicaStats {
+  /** How often what is shown was made anew. */
+  rebuilt: number
+  /** How many records came. */
+  records: number
+  /** How many own events were refused. */
+  refused: number
+  /** How many milliseconds the last own event that was taken took to be answered. */
+  answered: number | null
+}
+
+/** The program that was handed in is not the one that the host has, whose fingerprint is `host`. */
+export class OtherProgram extends Error {
+  constructor(host: string)
+  readonly host: string
+}
+
+/** A replica of a host's program in this process. */
+export class Replica {
+  constructor(client: Client, options: ReplicaOptions)
+  readonly client: Client
+  readonly origin: number | null
+  readonly now: () => number
+  /** Resolved once it has the log that the host had when it was asked; rejected with `OtherProgram` where that has another program. */
+  readonly ready: Promise<Replica>
+  readonly stats: ReplicaStats
+  /** Called with each output that is final, in order. */
+  onfinal: ((row: FinalOutput) => void) | null
+  /** Called where the host refuses one's own event, which is taken back: with its record, and why. */
+  onrefused: ((record: EventRecord, error: Error) => void) | null
+  /** Called when something has changed that is shown. */
+  onchange: (() => void) | null
+  /** Why it follows the host no more, as want of memory; `onerror` is called with it. */
+  readonly error: Error | null
+  onerror: ((error: Error) => void) | null
+  /** One's own event, here at once and to the host: at the next tick of the clock, or at `time`. */
+  act(input: string | number, value: GivenValue, when?: { time?: number }): Acted
+  /** Announces that no event of one's own comes any more before this tag, the next tick where none is given. */
+  announce(tag?: Partial<Tag>): Promise<Taken>
+  /** Executes the ticks that are due, and gives how many: to be called before each picture. */
+  frame(): number
+  /** The last tick of the clock that is shown, and how far it is past the last that came. */
+  readonly tick: { time: number; ahead: number } | null
+  /** The variables by name, as they are shown. */
+  readonly vars: Record<string, Value>
+  /** The variables by name over the host's log alone. */
+  readonly confirmed: Record<string, Value>
+  /** The tag before which all is final. */
+  readonly horizon: Tag
+  /** How many records of the host's log it has. */
+  readonly records: number
+  /** The variables by name as they were behind all that has this time, over the host's log. It costs a run up to there. */
+  at(time: number): Record<string, Value>
+  /** Follows the host no more. The client stays open. */
+  close(): Promise<void>
+}

@@ -1,0 +1,297 @@
+// Tries `clients/js/replica.js` over real hosts, with the engine in WebAssembly: what shows at once, what comes late, what is refused,
+// what is final, and what a lost connection and a host that began anew do. `WARPD=PROGRAM ENGINE=FILE node --test` runs it.
+
+import assert from "node:assert/strict"
+import { readFileSync } from "node:fs"
+import { test } from "node:test"
+import { Engine, NoMemory, ProgramRefused } from "../../js/engine.js"
+import { OtherProgram, Replica } from "../../js/replica.js"
+import { Announcer, Client } from "../../js/warpd.js"
+import { Host, SECONDS, WebSocket, fileOf, freePort } from "../../js/tests/hosting.js"
+
+const MODULE = await WebAssembly.compile(readFileSync(process.env.ENGINE ?? "engine.wasm"))
+const program = name => readFileSync(new URL(`../../../examples/${name}.json`, import.meta.url), "utf8")
+const PONG = JSON.stringify({ ...JSON.parse(program("pong")), version: 3, stop: 1_000_000 })
+const sleep = milliseconds => new Promise(resolve => setTimeout(resolve, milliseconds))
+
+async function until(holds) {
+  for (let turn = 0; turn < 1_000; turn += 1) {
+    if (await holds()) return
+    await sleep(10)
+  }
+  throw new Error(`it never came to ${holds}`)
+}
+
+/** A test over a host of pong: it is given `replicaOf(options)`, `client()` and the host. */
+function hosted(name, body, words = []) {
+  test(name, { timeout: 3 * SECONDS }, async () => {
+    const host = new Host(await freePort(), words, fileOf("pong.json", PONG))
+    await host.start()
+    const engine = await Engine.load(MODULE)
+    const clients = []
+    const client = () => {
+      clients.push(new Client(host.url, { WebSocket }))
+      return clients.at(-1)
+    }
+    const replicaOf = async options => {
+      const replica = new Replica(client(), { engine, program: PONG, ...options })
+      await replica.ready
+      return replica
+    }
+    try {
+      await body({ host, client, replicaOf, engine })
+    } finally {
+      for (const it of clients) it.close()
+      await host.stop()
+    }
+  })
+}
+
+/** The variables of a host, once it has so many records. */
+async function hostVars(client, records) {
+  await until(async () => (await client.horizon()).log >= records)
+  return (await client.readVars()).values
+}
+
+/** Sends ticks up to this one. */
+async function tickTo(client, from, to) {
+  const lines = Array.from({ length: to - from + 1 }, (_, at) => client.event("clock.tick", { time: from + at, value: 1 }))
+  await Promise.all(lines)
+}
+
+test("an engine answers lines, and tells values", async () => {
+  const engine = await Engine.load(MODULE)
+  const tab = engine.open(program("twice"))
+  const lines = "event 0 5 0 0 3\nvar 0\nnonsense\nannounce 0 10 0 1 0\nannounce 1 10 0 0 0\n"
+  assert.equal(tab.answer(lines), "taken 1\nvar 1 3\nrefused 1\ntaken 2\ntaken 3\n")
+  assert.deepEqual([...tab.vars()], [3n])
+  assert.deepEqual(tab.horizon(), { time: 10, micro: 0 })
+  assert.deepEqual(tab.released(), [{ index: 0, time: 5, micro: 0, output: 0, value: 3n }])
+  assert.deepEqual(tab.released(1), [])
+  assert.deepEqual(tab.released(9), [])
+  tab.drop()
+  assert.throws(() => engine.open("{}"), error => error instanceof ProgramRefused && error.number === 2)
+})
+
+test("replicas of one engine do not see each other's records", async () => {
+  const engine = await Engine.load(MODULE)
+  const [one, other] = [engine.open(program("twice")), engine.open(program("twice"))]
+  one.answer("event 0 5 0 0 3\n")
+  assert.deepEqual([[...one.vars()], [...other.vars()]], [[3n], [0n]])
+  one.drop()
+  other.answer("event 1 6 0 1 4\n")
+  assert.equal(other.vars().length, 1)
+})
+
+test("a copy of an engine has what that has, and what is tried in it is unknown to the first", async () => {
+  const engine = await Engine.load(MODULE)
+  const lines = Array.from({ length: 1_440 }, (_, at) => `event 0 ${at % 90} ${Math.floor(at / 90)} 0 1\n`).join("")
+  const tab = engine.open(program("twice"))
+  tab.answer(lines)
+  const before = [...tab.vars()]
+  const copied = engine.another()
+  copied.open(program("door"))
+  copied.copy(engine)
+  const copy = tab.within(copied)
+  assert.deepEqual([...copy.vars()], before)
+  assert.equal(copy.answer("event 1 3 0 1 4\nlog 1441\n"), tab.answer("event 1 3 0 1 4\nlog 1441\n"))
+  assert.deepEqual([...copy.vars()], [...tab.vars()])
+  copied.copy(engine)
+  assert.equal(copy.answer("event 1 4 0 1 4\n"), "taken 1442\n")
+  assert.equal(tab.answer("log 1442\n"), "none 1441\n")
+  assert.notEqual(copy.answer("outputs\n"), tab.answer("outputs\n"))
+  copied.copy(engine)
+  assert.equal(copy.answer("log 1442\n"), "none 1441\n")
+  assert.deepEqual([...copy.vars()], [...tab.vars()])
+})
+
+test("what is let go of is used again: memory does not grow", async () => {
+  const engine = await Engine.load(MODULE)
+  const lines = Array.from({ length: 200 }, (_, at) => `event 0 ${at % 90} ${Math.floor(at / 90)} 0 1\n`).join("")
+  let size = 0
+  for (let turn = 0; turn < 200; turn += 1) {
+    const tab = engine.open(program("twice"))
+    tab.answer(lines)
+    tab.drop()
+    if (turn === 20) size = engine.size
+  }
+  assert.equal(engine.size, size)
+})
+
+test("a call that was refused memory has changed nothing, and the next one does it", async () => {
+  const engine = await Engine.load(MODULE)
+  const tab = engine.open(program("twice"))
+  engine.refuse(1)
+  assert.throws(() => tab.answer("event 0 5 0 0 3\n"), error => error instanceof NoMemory && !error.isCut)
+  assert.deepEqual([...tab.vars()], [0n])
+  assert.equal(tab.answer("event 0 5 0 0 3\n"), "taken 1\n")
+})
+
+hosted("one's own event shows at once, and the host has it then", async ({ replicaOf, client }) => {
+  const replica = await replicaOf({ origin: 1 })
+  const before = replica.records
+  const act = replica.act("ann.steer", 1, { time: 7 })
+  assert.deepEqual([replica.vars["ann.goes"], replica.confirmed["ann.goes"], before], [1n, 0n, 0])
+  assert.equal((await act.answered).isNew, true)
+  await until(() => replica.records === 1)
+  assert.equal(replica.confirmed["ann.goes"], 1n)
+  assert.equal((await hostVars(client(), 1))["ann.goes"], 1n)
+  assert.deepEqual([replica.stats.rebuilt, replica.stats.refused], [0, 0])
+})
+
+hosted("two at one tick take two microsteps", async ({ replicaOf }) => {
+  const replica = await replicaOf({ origin: 1 })
+  const acts = [replica.act("ann.steer", 1, { time: 7 }), replica.act("ann.steer", -1, { time: 7 })]
+  assert.deepEqual(acts.map(it => [it.time, it.micro]), [[7, 0], [7, 1]])
+  assert.equal(replica.vars["ann.goes"], -1n)
+  await Promise.all(acts.map(it => it.answered))
+  await until(() => replica.records === 2)
+  assert.equal(replica.confirmed["ann.goes"], -1n)
+})
+
+hosted("what comes late from another goes back, and replicas agree with the host", async ({ replicaOf, client }) => {
+  const [ann, ben, clock] = [await replicaOf({ origin: 1 }), await replicaOf({ origin: 2 }), client()]
+  await clock.ready
+  await tickTo(clock, 1, 40)
+  await until(() => ann.records === 40 && ben.records === 40)
+  const straight = ben.vars["ann.row"]
+  await ann.act("ann.steer", 1, { time: 3 }).answered
+  await ben.act("ben.steer", -1, { time: 2 }).answered
+  await until(() => ann.records === 42 && ben.records === 42)
+  assert.notEqual(ben.vars["ann.row"], straight)
+  const host = await hostVars(clock, 42)
+  assert.deepEqual([ann.vars, ben.vars, ann.confirmed], [host, host, host])
+  const third = await replicaOf({})
+  assert.deepEqual(third.vars, host)
+  assert.throws(() => third.act("ann.steer", 1, { time: 50 }), TypeError)
+})
+
+hosted("what the host refuses is taken back, and told", async ({ replicaOf, client }) => {
+  const [replica, other] = [await replicaOf({ origin: 1 }), client()]
+  const told = []
+  replica.onrefused = (record, error) => told.push([record.time, error.name])
+  await replica.announce({ time: 20 })
+  const act = replica.act("ann.steer", 1, { time: 10 })
+  assert.equal(replica.vars["ann.goes"], 1n)
+  assert.equal(await act.answered, null)
+  assert.deepEqual([told, replica.vars["ann.goes"], replica.stats.rebuilt], [[[10, "RangeError"]], 0n, 1])
+  assert.equal((await hostVars(other, 1))["ann.goes"], 0n)
+})
+
+hosted("what is final is told once, in order, and never before the host's log has it", async ({ replicaOf, client }) => {
+  const [replica, clock] = [await replicaOf({ origin: 1 }), client()]
+  const final = []
+  replica.onfinal = row => final.push([row.index, row.time, row.output])
+  const ticker = new Announcer(clock, 0)
+  await Promise.all(Array.from({ length: 90 }, (_, at) => ticker.event("clock.tick", { time: at + 1, value: 1 })))
+  const ben = new Announcer(clock, 2)
+  await Promise.all([ticker.announce({ time: 91 }), ben.announce({ time: 91 })])
+  await until(() => replica.records === 92)
+  assert.deepEqual([final, replica.horizon], [[], { time: 0, micro: 0 }])
+  await replica.announce({ time: 91 })
+  await until(() => replica.horizon.time === 91)
+  const { count } = await clock.released()
+  assert.ok(count > 0)
+  const rows = await Promise.all(Array.from({ length: count }, (_, at) => clock.output(at)))
+  assert.deepEqual(final, rows.map((row, at) => [at, row.time, "ball.point"]))
+})
+
+hosted("ticks that are due are executed before they come, and one that is passed over is taken back", async ({ replicaOf, client }) => {
+  let now = 0
+  const options = { input: "clock.tick", hertz: 100, ahead: 5 }
+  const [replica, clock] = [await replicaOf({ origin: 1, now: () => now, clock: options }), client()]
+  await clock.ready
+  assert.equal(replica.frame(), 0)
+  now = 100
+  await clock.event("clock.tick", { time: 10, value: 1 })
+  await until(() => replica.records === 1)
+  now = 130
+  assert.deepEqual([replica.frame(), replica.tick], [3, { time: 13, ahead: 3 }])
+  now = 1_000
+  assert.deepEqual([replica.frame(), replica.tick.time], [2, 15])
+  assert.deepEqual([replica.stats.rebuilt, replica.act("ann.steer", 1).time], [0, 16])
+  await tickTo(clock, 11, 12)
+  await until(() => replica.records === 4)
+  assert.deepEqual([replica.stats.rebuilt, replica.vars["ann.goes"]], [0, 1n])
+  await tickTo(clock, 15, 15)
+  await until(() => replica.records === 5)
+  assert.equal(replica.stats.rebuilt, 1)
+  assert.deepEqual(replica.vars, await hostVars(clock, 5))
+})
+
+hosted("what was so at a time is told of the host's log", async ({ replicaOf, client }) => {
+  const [replica, clock] = [await replicaOf({}), client()]
+  await clock.ready
+  await tickTo(clock, 1, 30)
+  await until(() => replica.records === 30)
+  const rows = [1, 2, 12, 30].map(time => replica.at(time)["ball.x"])
+  assert.deepEqual(rows.slice(0, 2), [13n, 14n])
+  assert.equal(rows[3], replica.vars["ball.x"])
+  assert.deepEqual(replica.at(30), replica.confirmed)
+  assert.equal(replica.at(0)["ball.x"], 12n)
+})
+
+hosted("a connection that is lost is made again, and the log goes on", async ({ host, replicaOf, client }) => {
+  const replica = await replicaOf({ origin: 1 })
+  await replica.act("ann.steer", 1, { time: 7 }).answered
+  await until(() => replica.records === 1)
+  await host.stop()
+  const late = replica.act("ann.steer", -1, { time: 9 })
+  assert.equal(replica.vars["ann.goes"], -1n)
+  await host.start()
+  // The host began anew with no record: the announcer says again what it had sent, and the replica begins from the new log.
+  assert.ok(await late.answered)
+  const fresh = client()
+  await until(() => replica.records === 2 && replica.vars["ann.goes"] === -1n)
+  assert.deepEqual(replica.confirmed, await hostVars(fresh, 2))
+})
+
+hosted("where memory ends it follows no more, and says so", async ({ engine, client, host }) => {
+  const real = engine.another()
+  let isFull = false
+  // An engine that has no memory from some moment on.
+  const full = {
+    another: () => full,
+    copy() {},
+    fingerprint: text => real.fingerprint(text),
+    open(text) {
+      const tab = real.open(text)
+      const answer = lines => {
+        if (isFull) throw new NoMemory()
+        return tab.answer(lines)
+      }
+      const opened = { answer, within: () => opened, vars: () => tab.vars(), horizon: () => tab.horizon(), released: () => [], drop() {} }
+      return opened
+    },
+  }
+  const replica = new Replica(client(), { engine: full, program: PONG })
+  await replica.ready
+  const told = []
+  replica.onerror = error => told.push(error.name)
+  isFull = true
+  const clock = client()
+  await clock.ready
+  await tickTo(clock, 1, 3)
+  await until(() => told.length)
+  await tickTo(clock, 4, 5)
+  assert.deepEqual([told, replica.error instanceof NoMemory], [["NoMemory"], true])
+})
+
+hosted("who is closed before the log has come is told so", async ({ client, replicaOf }) => {
+  const other = client()
+  await other.ready
+  await tickTo(other, 1, 2)
+  const closed = client()
+  const replica = new Replica(closed, { engine: await Engine.load(MODULE), program: PONG })
+  closed.close()
+  await assert.rejects(replica.ready)
+  assert.equal((await replicaOf({})).records, 2)
+})
+
+hosted("a program that is not the host's is refused, and one that is only laid out in another way is not", async ({ client, engine }) => {
+  const other = new Replica(client(), { engine, program: program("pong") })
+  await assert.rejects(other.ready, error => error instanceof OtherProgram && /^[0-9a-f]{64}$/.test(error.host))
+  const same = new Replica(client(), { engine, program: JSON.stringify(JSON.parse(PONG), null, 2) })
+  assert.equal((await same.ready).records, 0)
+  assert.throws(() => engine.fingerprint("{}"), error => error instanceof ProgramRefused && error.number === 2)
+})

@@ -1,0 +1,2 @@
+pub mod CutAnswers
+pub mod Digits
