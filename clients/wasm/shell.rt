@@ -10,7 +10,7 @@ use std::io::Read;
 use std::process::ExitCode;
 use warp_replica::Local;
 use warp_run::Warp;
-use warp_tab::{Unanswered, answer, fingerprint, horizon, open, released, vars};
+use warp_tab::{AnswerFault, answer, fingerprint, horizon, open, released, vars};
 use warp_tag::Out;
 
 /// What is answered in the place of a count where lines are too long.
@@ -93,9 +93,9 @@ pub extern "C" fn tab_answer(alloc: Global, tab: *mut u8, lines: &[u8]) -> i64 {
             it.replies = replies;
             count
         }
-        Err(Unanswered::TooLong) => TOO_LONG,
-        Err(Unanswered::NoMemory) => NO_MEMORY,
-        Err(Unanswered::Cut) => CUT,
+        Err(AnswerFault::TooLong) => TOO_LONG,
+        Err(AnswerFault::NoMemory) => NO_MEMORY,
+        Err(AnswerFault::Cut) => CUT,
     };
     let _ = Box::into_raw(it);
     count

@@ -19,7 +19,7 @@ pub const LONGEST: usize = 1_000_000_000;
 
 /// Why lines were not all answered.
 #[derive(Clone, Copy, Debug, PartialEq, Eq)]
-pub enum Unanswered {
+pub enum AnswerFault {
     /// There are 1,000,000,000 bytes or more. None of them was looked at.
     TooLong,
     /// No memory was to be had to begin. None of them was looked at.
@@ -34,21 +34,21 @@ pub enum Unanswered {
 ///
 /// # Errors
 ///
-/// Where not all lines were answered; `Unanswered` says which were.
+/// Where not all lines were answered; `AnswerFault` says which were.
 pub fn answer<T: Timeline>(
     alloc: Global,
     tab: &mut Local<T>,
     lines: &[u8],
-) -> Result<Vec<u8>, Unanswered>
+) -> Result<Vec<u8>, AnswerFault>
     ensures answered { IfOk result (λ replies. Session tab.old.program.form LocalGives (local_state tab.old) lines.now
         replies.items (local_state tab.new)) }
-    ensures long { result ≡ Err Unanswered.TooLong → (most_reads ≤ length lines.now) × (tab.new ≡ tab.old) }
-    ensures memory { result ≡ Err Unanswered.NoMemory → tab.new ≡ tab.old }
-    ensures cut { result ≡ Err Unanswered.Cut →
+    ensures long { result ≡ Err AnswerFault.TooLong → (most_reads ≤ length lines.now) × (tab.new ≡ tab.old) }
+    ensures memory { result ≡ Err AnswerFault.NoMemory → tab.new ≡ tab.old }
+    ensures cut { result ≡ Err AnswerFault.Cut →
         AnswersFront tab.old.program.form (local_state tab.old) lines.now (local_state tab.new) }
 {
     if lines.len() >= LONGEST {
-        return Err(Unanswered::TooLong);
+        return Err(AnswerFault::TooLong);
     }
     answer_in::<T, Brand>(alloc, tab, lines, Blank::new(1))
 }
@@ -59,24 +59,24 @@ fn answer_in<T: Timeline, L: Ledger>(
     tab: &mut Local<T>,
     lines: &[u8],
     blank: Blank,
-) -> Result<Vec<u8>, Unanswered>
+) -> Result<Vec<u8>, AnswerFault>
     requires unused { IsUnused blank L.name L.parts }
     requires short { length lines.now < most_reads }
     ensures answered { IfOk result (λ replies. Session tab.old.program.form LocalGives (local_state tab.old) lines.now
         replies.items (local_state tab.new)) }
-    ensures long { result ≢ Err Unanswered.TooLong }
-    ensures memory { result ≡ Err Unanswered.NoMemory → tab.new ≡ tab.old }
-    ensures cut { result ≡ Err Unanswered.Cut →
+    ensures long { result ≢ Err AnswerFault.TooLong }
+    ensures memory { result ≡ Err AnswerFault.NoMemory → tab.new ≡ tab.old }
+    ensures cut { result ≡ Err AnswerFault.Cut →
         AnswersFront tab.old.program.form (local_state tab.old) lines.now (local_state tab.new) }
 {
     let mut source = Lines::new(lines);
     let mut sink = Stream::<Vec<u8>, L>::new(Vec::new(alloc), blank);
     match session(alloc, &mut source, &mut sink, tab) {
         SessionEnd::End => Ok(sink.into_inner()),
-        SessionEnd::NoMemory => Err(Unanswered::NoMemory),
-        SessionEnd::WriteFault => Err(Unanswered::Cut),
+        SessionEnd::NoMemory => Err(AnswerFault::NoMemory),
+        SessionEnd::WriteFault => Err(AnswerFault::Cut),
         // No read fails, and fewer bytes want no such number of them.
-        SessionEnd::ReadFault => Err(Unanswered::Cut),
-        SessionEnd::TooManyReads => Err(Unanswered::Cut),
+        SessionEnd::ReadFault => Err(AnswerFault::Cut),
+        SessionEnd::TooManyReads => Err(AnswerFault::Cut),
     }
 }

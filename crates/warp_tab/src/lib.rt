@@ -11,6 +11,6 @@ mod lines;
 mod opening;
 mod telling;
 
-pub use answering::{LONGEST, Unanswered, answer};
+pub use answering::{AnswerFault, LONGEST, answer};
 pub use opening::{fingerprint, open};
 pub use telling::{horizon, released, vars};
