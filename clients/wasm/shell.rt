@@ -10,7 +10,7 @@ use std::io::Read;
 use std::process::ExitCode;
 use warp_replica::Local;
 use warp_run::Warp;
-use warp_tab::{Unanswered, answer, fingerprint, horizon, open, released, vars};
+use warp_tab::{Unanswered, answer, fingerprint, fork, horizon, open, released, vars};
 use warp_tag::Out;
 
 /// What is answered in the place of a count where lines are too long.
@@ -45,6 +45,18 @@ fn keep(alloc: Global, local: Local<Warp>, tab: &mut *mut u8) -> u32 {
         }
         Err(_) => 8,
     }
+}
+
+/// Gives the address of a second replica with the same program and log into `copy`: 0, or 8 where no memory was to be had.
+#[unsafe(no_mangle)]
+pub extern "C" fn tab_fork(alloc: Global, tab: *mut u8, copy: &mut *mut u8) -> u32 {
+    let it = at(alloc, tab);
+    let made = match fork(alloc, &it.local) {
+        Ok(local) => keep(alloc, local, copy),
+        Err(_) => 8,
+    };
+    let _ = Box::into_raw(it);
+    made
 }
 
 /// The replica at this address.
@@ -191,6 +203,10 @@ fn main(rt: HostRuntime) -> ExitCode {
         return ExitCode::from(2);
     }
     let mut room = [0i64; 8];
+    let mut copy: *mut u8 = std::ptr::null_mut();
+    if tab_fork(alloc, tab, &mut copy) == 0 {
+        tab_drop(alloc, copy);
+    }
     let mut digits = [0u8; 64];
     let told = tab_fingerprint(alloc, b"{}", &mut digits)
         + tab_answer(alloc, tab, b"horizon\n")
