@@ -22,6 +22,8 @@ export interface Output extends Tag {
 export interface Tab {
   /** The same replica in an engine that is a copy of its own. */
   within(engine: Engine): Tab
+  /** A second replica with the same program and log in this engine, of which nothing is done yet: it costs a run of the log. */
+  fork(): Tab
   /** The replies to lines, a line each. What has no line feed at its end is refused. */
   answer(lines: string): string
   answerBytes(bytes: Uint8Array): Uint8Array

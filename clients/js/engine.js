@@ -180,6 +180,13 @@ class Tab {
     return new Tab(memoryOf(engine), this.#at)
   }
 
+  /** A second replica with the same program and log in this engine, of which nothing is done yet: it costs a run of the log. */
+  fork() {
+    const room = this.#memory.room(8)
+    if (this.#calls.tab_fork(this.#at, room)) throw new NoMemory()
+    return new Tab(this.#memory, this.#memory.words(room, 1)[0])
+  }
+
   /** The replies to lines, a line each. What has no line feed at its end is refused. */
   answer(lines) {
     return decoder.decode(this.answerBytes(encoder.encode(lines)))

@@ -123,6 +123,59 @@ class Player {
   }
 }
 
+/** Plays until each player has acted so often; in the middle the first player's connection breaks. */
+async function played(players, ticker) {
+  const began = performance.now()
+  let isBroken = false
+  // A machine that has other work shows fewer pictures.
+  const isPlayed = part => performance.now() - began > part * PLAYED && players.every(it => it.acts.length >= part * ACTS)
+  while (!isPlayed(1)) {
+    ticker.due()
+    for (const player of players) player.frame()
+    if (!isBroken && isPlayed(0.5)) {
+      isBroken = true
+      Late.made[0].break()
+    }
+    await sleep(8)
+  }
+}
+
+/** Each event showed at once, and none was refused. */
+async function areAnswered(players) {
+  const acts = players.flatMap(it => it.acts)
+  assert.deepEqual(acts.map(it => it.shown), acts.map(it => it.value))
+  const answers = await Promise.all(acts.map(it => it.answered))
+  assert.ok(answers.every(it => it !== null))
+  assert.deepEqual(players.map(it => it.replica.stats.refused), [0, 0])
+}
+
+/** What is final at a host, in words. */
+async function finalAt(client) {
+  const { count } = await client.releases()
+  const rows = await Promise.all(Array.from({ length: count }, (_, at) => client.release(at)))
+  return rows.map((row, at) => `${at} ${row.time} ${row.micro} ${row.value}`)
+}
+
+/** A replica over connections of this kind, which keeps what it was told as final. */
+async function replicaOf(client, options) {
+  const replica = new Replica(client, options)
+  replica.final = []
+  replica.onfinal = row => replica.final.push(`${row.index} ${row.time} ${row.micro} ${row.value}`)
+  await replica.ready
+  return replica
+}
+
+/** All replicas, one that comes late too, have what the host has. */
+async function areEqual(replicas, near, late) {
+  const { log } = await near.horizon()
+  await until(() => replicas.every(it => it.records === log))
+  const all = [...replicas, await late()]
+  const [{ values }, final] = [await near.readVars(), await finalAt(near)]
+  assert.deepEqual(all.map(it => it.confirmed), all.map(() => values))
+  assert.deepEqual(all.map(it => it.vars), all.map(() => values))
+  assert.deepEqual(all.map(it => it.final), all.map(() => final))
+}
+
 test("players over late connections, one of which breaks", { timeout: 4 * SECONDS }, async () => {
   const host = new Host(await freePort(), [], fileOf("pong.json", PONG))
   await host.start()
@@ -132,55 +185,21 @@ test("players over late connections, one of which breaks", { timeout: 4 * SECOND
     clients.push(new Client(host.url, { WebSocket: socket }))
     return clients.at(-1)
   }
-  const replicaOf = async (socket, options) => {
-    const replica = new Replica(connect(socket), { engine, program: PONG, ...options })
-    replica.final = []
-    replica.onfinal = row => replica.final.push(`${row.index} ${row.time} ${row.micro} ${row.value}`)
-    await replica.ready
-    return replica
-  }
+  const join = options => replicaOf(connect(Late), { engine, program: PONG, ...options })
   try {
     const clock = { input: "clock.tick", hertz: HERTZ, ahead: HERTZ }
-    const [ann, ben] = await Promise.all([replicaOf(Late, { origin: 1, clock }), replicaOf(Late, { origin: 2, clock })])
+    const [ann, ben] = await Promise.all([join({ origin: 1, clock }), join({ origin: 2, clock })])
     const players = [new Player(ann, "ann", 3), new Player(ben, "ben", 7)]
     const near = connect(WebSocket)
     await near.ready
     const ticker = new Ticker(near)
-    const began = performance.now()
-    let isBroken = false
-    // A machine that has other work shows fewer pictures: so it is played until each has acted so often.
-    const isPlayed = part => performance.now() - began > part * PLAYED && players.every(it => it.acts.length >= part * ACTS)
-    while (!isPlayed(1)) {
-      ticker.due()
-      for (const player of players) player.frame()
-      if (!isBroken && isPlayed(0.5)) {
-        isBroken = true
-        Late.made[0].break()
-      }
-      await sleep(8)
-    }
-    const acts = players.flatMap(it => it.acts)
-    assert.deepEqual(acts.map(it => it.shown), acts.map(it => it.value))
-    const answers = await Promise.all(acts.map(it => it.answered))
-    assert.ok(answers.every(it => it !== null))
+    await played(players, ticker)
+    await areAnswered(players)
     assert.equal(ann.client.connections, 2)
     // The clock goes on to the last tick that a player was shown.
     while (ticker.time < Math.max(ann.tick.time, ben.tick.time) || ticker.time % 8) ticker.tick()
     await Promise.all([ann, ben].map(it => it.announce({ time: ticker.time + 1 })))
-    const { log } = await near.horizon()
-    await until(() => ann.records === log && ben.records === log)
-    const wanted = (await near.readVars()).values
-    const third = await replicaOf(Late, {})
-    assert.deepEqual([ann.confirmed, ben.confirmed, third.confirmed, third.vars], [wanted, wanted, wanted, wanted])
-    for (const it of [ann, ben]) {
-      while (it.tick.time < ticker.time) it.frame()
-      assert.deepEqual(it.vars, wanted)
-      assert.equal(it.stats.refused, 0)
-    }
-    const { count } = await near.releases()
-    const rows = await Promise.all(Array.from({ length: count }, (_, at) => near.release(at)))
-    const final = rows.map((row, at) => `${at} ${row.time} ${row.micro} ${row.value}`)
-    assert.deepEqual([ann.final, ben.final, third.final], [final, final, final])
+    await areEqual([ann, ben], near, join)
     assert.equal(ann.horizon.time, ticker.time + 1)
   } finally {
     for (const it of clients) it.close()

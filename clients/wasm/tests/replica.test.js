@@ -105,6 +105,24 @@ test("a copy of an engine has what that has, and what is tried in it is unknown 
   assert.deepEqual([...copy.vars()], [...tab.vars()])
 })
 
+test("a fork has the same log, what is tried in it is unknown to the first, and its drop takes nothing along", async () => {
+  const engine = await Engine.load(MODULE)
+  const tab = engine.open(program("twice"))
+  tab.answer("event 0 5 0 0 3\nevent 0 6 0 0 4\nannounce 0 6 0 1 0\nannounce 1 6 0 0 0\n")
+  const asked = "log 1\nlog 2\nlog 3\nlog 4\nlog 5\noutputs\nreleased\nhorizon\nvar 0\nevent 0 6 0 0 4\n"
+  const before = [tab.answer(asked), [...tab.vars()], tab.released()]
+  const fork = tab.fork()
+  assert.deepEqual([fork.answer(asked), [...fork.vars()], fork.released()], before)
+  assert.equal(fork.answer("event 1 2 0 1 9\nwithdraw 0 6 0\n"), "taken 5\ntaken 6\n")
+  assert.notDeepEqual([...fork.vars()], before[1])
+  assert.deepEqual([tab.answer(asked), [...tab.vars()], tab.released()], before)
+  fork.drop()
+  assert.deepEqual([tab.answer(asked), [...tab.vars()], tab.released()], before)
+  engine.refuse(1)
+  assert.throws(() => tab.fork(), NoMemory)
+  assert.deepEqual([tab.answer(asked), [...tab.fork().vars()]], [before[0], before[1]])
+})
+
 test("what is let go of is used again: memory does not grow", async () => {
   const engine = await Engine.load(MODULE)
   const lines = Array.from({ length: 200 }, (_, at) => `event 0 ${at % 90} ${Math.floor(at / 90)} 0 1\n`).join("")
