@@ -118,6 +118,9 @@ def little_memory():
             def prepare():
                 resource.setrlimit(resource.RLIMIT_AS, (space << 19, space << 19))
 
+            if subprocess.run([hosting.PROGRAM, "--version"], capture_output=True, timeout=60, preexec_fn=prepare).returncode != 0:
+                # The system cannot even load it.
+                continue
             more = ("--journal", Path(folder, f"{space}.journal"), "--peer", "localhost:1")
             words = [hosting.PROGRAM, "host", TWICE, "--listen", f"{HOST}:0", "--until-input-ends", *more]
             run = subprocess.run(words, stdin=subprocess.DEVNULL, capture_output=True, text=True, timeout=60, preexec_fn=prepare)
