@@ -301,6 +301,29 @@ pub(crate) fn is_left<F: Files<File = File>>(
     }
 }
 
+/// Refuses to begin a journal beside a fresh file that has bytes: it may be the only copy of what was told.
+pub(crate) fn refuse_only_copy<F: Files<File = File>>(
+    files: &F,
+    alloc: Global,
+    place: &JournalPlace,
+) -> Result<(), FileFault> {
+    let name = path_beside(alloc, place.path.as_str())?;
+    match fs::metadata(files, name.as_str()) {
+        Ok(about) => {
+            if about.is_file() && about.len() > 0 {
+                return Err(FileFault::OnlyCopy);
+            }
+            Ok(())
+        }
+        Err(error) => {
+            if error.kind() == ErrorKind::NotFound {
+                return Ok(());
+            }
+            Err(FileFault::System(error))
+        }
+    }
+}
+
 /// What the journal's thread needs of the system's files. It is a trait of its own, since `Files` has a type of folders
 /// that none can name, and so goes to no other thread.
 pub trait FreshFiles {

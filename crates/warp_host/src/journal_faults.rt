@@ -48,6 +48,8 @@ pub enum FileFault {
     NoLock,
     /// What stands beside it with `.damaged` behind its name is no regular file.
     NoAside,
+    /// It has nothing, and the fresh file beside it has bytes.
+    OnlyCopy,
 }
 
 impl From<AllocError> for FileFault {
@@ -80,6 +82,9 @@ impl FileFault {
             FileFault::Other => Some("another file stands under its name"),
             FileFault::NoLock => Some("FILE.lock is no regular file"),
             FileFault::NoAside => Some("FILE.damaged is no regular file"),
+            FileFault::OnlyCopy => Some(
+                "it is empty or not there, and FILE.new is not: put that in its place, or move it away",
+            ),
             FileFault::Open(_) | FileFault::System(_) => None,
         }
     }
@@ -114,7 +119,8 @@ pub fn tell_file_fault<X: Eprint>(rt: &X, path: &str, fault: FileFault) -> OpenF
         | FileFault::Long
         | FileFault::Other
         | FileFault::NoLock
-        | FileFault::NoAside => {
+        | FileFault::NoAside
+        | FileFault::OnlyCopy => {
             let why = fault.words().unwrap_or("");
             let _ = eprintln!(rt; "journal {path}: {why}");
             OpenFault::Unusable

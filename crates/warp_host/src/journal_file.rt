@@ -5,7 +5,7 @@ ghost use Rattle.warp_host.specs.Telling.{told_with};
 use crate::durable::Tells;
 use crate::fresh_file::{
     JournalPlace, OWNER_ALONE, PIECE, begin, begin_beside, id_of, is_left, keep_aside, length_of,
-    lock_file, open_regular, real_path, refuse_special_file, sync_folder, take_place,
+    lock_file, open_regular, real_path, refuse_only_copy, refuse_special_file, sync_folder, take_place,
 };
 use crate::journal_faults::{FileFault, OpenFault, tell_file_fault};
 use crate::renewal::take_in_batches;
@@ -518,7 +518,10 @@ fn opened<X: Files<File = File> + Eprint + Clock, T: Timeline>(
     let first = first_of(alloc, &mut file, lines)?;
     let (disk, journal) = match first {
         Some(first) => go_on(rt, alloc, path, file, first, replica)?,
-        None => begin(alloc, file, lines.new)?,
+        None => {
+            refuse_only_copy(rt, alloc, &place)?;
+            begin(alloc, file, lines.new)?
+        }
     };
     let is_old = first == Some(lines.old);
     let keeper = keep_on(rt, alloc, disk, journal, &mut place, is_old, replica)?;
