@@ -159,7 +159,7 @@ def read(data):
             records.append(line.decode())
         else:
             *rest, torn = data[kept:].split(b"\n")
-            later = len(rest) > MOST_TORN + 1 or len(torn) > LONGEST or any(it.startswith(b"= ") or len(it) > LONGEST for it in rest)
+            later = len(rest) > MOST_TORN + 1 or len(torn) > LONGEST or any(b"=" in it or len(it) > LONGEST for it in rest)
             return Read(records, kept, number, WRONG_SUM if line.startswith(b"= ") else NO_RECORD, later)
         digest.update(data[kept:end])
         kept, number = end, number + 1
