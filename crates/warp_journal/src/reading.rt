@@ -93,7 +93,6 @@ fn next_line(bytes: &[u8]) -> Option<&[u8]>
 }
 
 /// Whether this text has an equals sign, as each sum has and no record.
-#[tactic(auto, using(crate::proofs::Signs::has_none, crate::proofs::Signs::has_some))]
 fn shows_sum(text: &[u8]) -> bool
     ensures { result ≡ has_equals text.now }
 {
