@@ -13,13 +13,13 @@ or_true true = refl
 or_true false = refl
 
 none_at : (text : List ℕ) → ((k : ℕ) → k < length text → (get_or text k 0 == 61) ≡ false) → has_equals text ≡ false
-  unfolding has_equals
+unfolding has_equals
 none_at [] none = refl
 none_at (byte ∷ text) none =
     ap (λ (b : Bool). b || has_equals text) (none 0 (omega arith)) ∙ none_at text (λ k below. none (suc k) (omega (arith, below)))
 
 some_at : (text : List ℕ) (at : ℕ) → at < length text → (get_or text at 0 == 61) ≡ true → has_equals text ≡ true
-  unfolding has_equals
+unfolding has_equals
 some_at [] at high is = absurd (omega (arith, high))
 some_at (byte ∷ text) zero high is = ap (λ (b : Bool). b || has_equals text) is
 some_at (byte ∷ text) (suc at) high is =
