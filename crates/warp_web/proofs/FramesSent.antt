@@ -57,17 +57,22 @@ pub record Added (old new : List ℕ) (texts : List (List ℕ)) : Type 0 where
   pub is : new ≡ old ++ more
   pub are : AreFrames more texts
 
+-- a server's frame has no mask
+pub sends_frame : (role : Role) (frame : Outgoing) (old new : List ℕ) → role ≡ Server → Sends role (Some frame) old new
+    → new ≡ old ++ encode_frame (whole_header frame.opcode None) frame.payload
+sends_frame role frame old new server s =
+    s.2 ∙ ap (λ (m : Option (List ℕ)). old ++ encode_frame (whole_header frame.opcode m) frame.payload)
+    (no_mask s.0 (s.1.0 ∙ ap (λ (r : Role). not (is_server r)) server))
+
 -- what a server sends are whole frames
 pub sends_added : (role : Role) (reply : Option Outgoing) (old new : List ℕ) → role ≡ Server → Sends role reply old new
     → Added old new (reply_texts reply)
 sends_added role None old new server s = record { more = []; is = s ∙ sym (append-nil old); are = frames_nil }
-sends_added role (Some frame) old new server s =
-    let none : s.0 ≡ None = no_mask s.0 (s.1.0 ∙ ap (λ (r : Role). not (is_server r)) server) in
-    record {
-      more = encode_frame (whole_header frame.opcode None) frame.payload;
-      is = s.2 ∙ ap (λ (m : Option (List ℕ)). old ++ encode_frame (whole_header frame.opcode m) frame.payload) none;
-      are = frames_one frame;
-    }
+sends_added role (Some frame) old new server s = record {
+  more = encode_frame (whole_header frame.opcode None) frame.payload;
+  is = sends_frame role frame old new server s;
+  are = frames_one frame;
+}
 
 -- added to nothing, what is there are the frames
 pub added_to_none : (new : List ℕ) (texts : List (List ℕ)) → Added [] new texts → AreFrames new texts

@@ -1,6 +1,7 @@
 pub mod FramedTexts
 pub mod FramesRead
 pub mod FramesSent
+pub mod HttpLemmas
 pub mod LinesSaid
 pub mod TakenFrames
 pub mod TalkLemmas

@@ -7,6 +7,7 @@ use Rattle.websocket.specs.declared.protocol.frame.coding.Control.TheVariants.{C
 use Rattle.websocket.specs.declared.protocol.frame.coding.Data.TheVariants as Kind
 use Rattle.websocket.specs.declared.protocol.frame.coding.OpCode.TheVariants as Op
 use Rattle.websocket.specs.declared.protocol.state.WebSocketState.{WebSocketState}
+use Rattle.websocket.specs.declared.protocol.state.WebSocketState.TheVariants.{Active, ClosedByUs}
 use Rattle.websocket.specs.Frame.{Checked, after_check}
 use Rattle.websocket.specs.View.{Leaves}
 use Rattle.websocket.specs.Connection.{Connection, Effect, check_can_write, check_close, check_control_size, close_step, close_to, closing_state, write_step}
@@ -14,10 +15,10 @@ use Rattle.websocket.specs.Content.{text, ping, close_payload}
 use Rattle.warp_record.specs.Lines.{Piece}
 use Rattle.warp_web.specs.Lines.{Passed, Says, Unsaid, nothing_passed, nothing_unsaid, hearing}
 use Rattle.warp_web.specs.Frames.{AreFrames, lines_in, message_lines}
-use Rattle.warp_web.specs.Web.{WebTalk, Speaks, new_conn}
+use Rattle.warp_web.specs.Web.{WebTalk, Speaks, control_frame, new_conn}
 use Rattle.warp_web.specs.Taking.{Does, DoesFrame, AddsQuietly}
 use Rattle.warp_web.proofs.LinesSaid.{says_nothing, says_more}
-use Rattle.warp_web.proofs.FramesSent.{Added, frames_nil, frames_join, frames_quiet, sends_added}
+use Rattle.warp_web.proofs.FramesSent.{Added, frames_nil, frames_join, frames_quiet, sends_added, sends_frame}
 use Rattle.warp_web.proofs.FramesRead.{reads_more, reads_one, lines_in-one}
 
 -- what a call leaves behind a check that passed
@@ -257,6 +258,31 @@ speaks_pinged p old bytes conn none more output empty leaves is s =
           (record { more = added.more; output = added.is; quiet = added.are }) s.writes;
       answers = s.answers;
     }
+
+-- a ping is such a frame
+pub pinged_adds : (old : WebTalk) (bytes : List ℕ) (conn : Connection) (none more output : List ℕ) → none ≡ []
+    → Leaves (write_step old.conn (ping bytes)) conn none more → output ≡ old.output ++ more → old.conn.role ≡ Server
+    → output ≡ old.output ++ control_frame Ping bytes
+pinged_adds old bytes conn none more output empty leaves is server =
+    let sent = leaves_after (check_control_size bytes) _ conn none more (leaves_after (check_can_write old.conn.state) _ conn none more leaves) in
+    let frame = sends_frame conn.role (record { opcode = Op.Control Ping; payload = bytes }) none more (ap (λ (c : Connection). c.role) sent.0 ∙ server) sent.1 in
+    is ∙ ap (λ (l : List ℕ). old.output ++ l) (frame ∙ ap (λ (l : List ℕ). l ++ control_frame Ping bytes) empty)
+
+close_adds : (conn next : Connection) (frame : Option (CloseCode × List ℕ)) (state : WebSocketState) (none more : List ℕ) → none ≡ [] → conn.role ≡ Server
+    → Leaves (close_to conn frame (Some state)) next none more → more ≡ control_frame Close (close_payload frame)
+close_adds conn next frame state none more empty server leaves =
+    let sent = leaves_after (check_close frame) _ next none more leaves in
+    sends_frame next.role (record { opcode = Op.Control Close; payload = close_payload frame }) none more (ap (λ (c : Connection). c.role) sent.0 ∙ server) sent.1
+    ∙ ap (λ (l : List ℕ). l ++ control_frame Close (close_payload frame)) empty
+
+-- a close is, where none was sent yet
+pub closed_adds : (old : WebTalk) (frame : Option (CloseCode × List ℕ)) (conn : Connection) (none more output : List ℕ) → none ≡ []
+    → Leaves (close_step old.conn frame) conn none more → output ≡ old.output ++ more → old.conn.role ≡ Server → old.conn.state ≡ Active
+    → output ≡ old.output ++ control_frame Close (close_payload frame)
+closed_adds old frame conn none more output empty leaves is server active =
+    is ∙ ap (λ (l : List ℕ). old.output ++ l)
+    (close_adds old.conn conn frame ClosedByUs none more empty server
+    (subst (λ (s : WebSocketState). Leaves (close_to old.conn frame (closing_state s)) conn none more) active leaves))
 
 -- ---- a frame that was taken while the input was taken out
 

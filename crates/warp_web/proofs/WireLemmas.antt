@@ -5,6 +5,8 @@ use Rattle.warp_web.specs.declared.gone.Gone.{Gone}
 use Rattle.warp_web.specs.declared.web.Web.{Web}
 use Rattle.warp_web.specs.declared.wire.Speech.{Speech}
 use Rattle.warp_web.specs.declared.wire.Speech.TheVariants as speech
+use Rattle.warp_web.specs.declared.requests.Http.{Http}
+use Rattle.warp_web.specs.Http.{Converses}
 use Rattle.warp_web.specs.Lines.{Carries, Passed, Talk, nothing_passed}
 use Rattle.warp_web.specs.Web.{Speaks, talk_of}
 use Rattle.warp_web.specs.Wire.{PassesIn}
@@ -25,6 +27,15 @@ pub hear_web : (r : Result ℕ Gone) (bytes : List ℕ) (start mid : Speech) (ol
 hear_web (Err e) bytes start mid old shown new begins is same speaks = tt
 hear_web (Ok n) bytes start mid old shown new begins is same speaks = λ p h.
     speaks p (subst (λ (w : Web). Speaks p (talk_of w)) (sym same) (is p (begins p h)))
+
+-- over one that speaks HTTP
+pub hear_http : (r : Result ℕ Gone) (bytes : List ℕ) (start mid : Speech) (old shown new : Http) → ((p : Passed) → PassesIn p start → PassesIn p mid)
+    → ((p : Passed) → PassesIn p mid → Converses p old) → shown ≡ old
+    → IfOk r (λ n. (p : Passed) → Converses p shown → Converses (record p { heard = p.heard ++ take n bytes }) new)
+    → IfOk r (λ n. (p : Passed) → PassesIn p start → Converses (record p { heard = p.heard ++ take n bytes }) new)
+hear_http (Err e) bytes start mid old shown new begins is same converses = tt
+hear_http (Ok n) bytes start mid old shown new begins is same converses = λ p h.
+    converses p (subst (λ (w : Http). Converses p w) (sym same) (is p (begins p h)))
 
 take_whole : (n : ℕ) (xs : List ℕ) → length xs ≤ n → take n xs ≡ xs
 take_whole n xs le =

@@ -29,6 +29,15 @@ most_input = 16398
 abbrev pub most_answer : ℕ
 most_answer = 139
 
--- of a connection that speaks HTTP, of what came behind its last answer
+-- of a connection that speaks HTTP: of a head, of a body, of the extensions and of the trailers of one, and of what waits to
+-- be written while a request is read
+abbrev pub most_part : ℕ
+most_part = 16384
+
+-- how many bytes are heard at once over HTTP
+abbrev pub read_size : ℕ
+read_size = 2048
+
+-- of what came behind the last answer
 abbrev pub most_unanswered : ℕ
 most_unanswered = 4 * 16384 + 2048

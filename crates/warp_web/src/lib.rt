@@ -18,4 +18,4 @@ pub use gone::Gone;
 pub use lines::Lines;
 pub use requests::{Answers, Http};
 pub use web::Web;
-pub use wire::{Said, Spoken, Wire, spoken_from};
+pub use wire::{Kind, Said, Spoken, Wire, spoken_from};

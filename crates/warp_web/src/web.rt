@@ -3,13 +3,16 @@
 //! What it holds is bounded by the types of what it keeps (`kept`, `framed`): no frame is taken while lines of the last are
 //! not said or the other end is behind, and of the answers to pings the newest alone is kept.
 
-ghost use Rattle.std.specs.Prelude.{◌≡◌, ◌+◌, ◌≤◌, ◌++◌, ◌∷◌, false, true, [], IfNone, IfOk, OnErr, OnOk, drop, length, take};
+ghost use Rattle.std.specs.Prelude.{◌≡◌, ◌+◌, ◌≤◌, ◌==◌, ◌&&◌, ◌++◌, ◌∷◌, false, true, [], Some, IfNone, IfOk, OnErr, OnOk};
+ghost use Rattle.std.specs.Prelude.{drop, length, take};
 ghost use Rattle.warp_web.specs.Bounds.{most_answer, most_heard, most_input, most_told};
 ghost use Rattle.warp_web.specs.Frames.{AreFrames, IsShort};
 ghost use Rattle.warp_web.specs.Lines.{Passed, nothing_passed, said_of};
 ghost use Rattle.warp_web.specs.Taking.{Does, DoesMessage, Takes};
-ghost use Rattle.warp_web.specs.Web.{MayTake, Speaks, talk_of};
-ghost use Rattle.websocket.specs.Content.{message_content};
+ghost use Rattle.warp_web.specs.Web.{MayTake, Speaks, control_frame, talk_of, web_behind, web_count, web_wants};
+ghost use Rattle.websocket.specs.declared.protocol.frame.coding.Control.TheVariants as Control;
+ghost use Rattle.websocket.specs.declared.protocol.state.WebSocketState.TheVariants as State;
+ghost use Rattle.websocket.specs.Content.{close_payload, message_content};
 
 use crate::bounds::{LONGEST_ANSWER, LONGEST_FRAME, LONGEST_MESSAGE};
 use crate::cutter::Cutter;
@@ -40,8 +43,6 @@ pub struct Web {
     pong: Kept<LONGEST_ANSWER>,
     /// A close was sent or answered, or the protocol was broken: nothing more is taken or told.
     is_closing: bool,
-    /// No more bytes come.
-    has_ended: bool,
 }
 
 /// What came of looking for a frame.
@@ -73,18 +74,22 @@ impl Web {
             output: Framed::new(alloc),
             pong: Kept::new(alloc),
             is_closing: false,
-            has_ended: false,
         }
     }
 
-    /// Whether bytes are wanted, where all that came was taken and said: the other end is not behind, and neither end closes.
-    pub fn wants(&self) -> bool {
-        !self.is_closing && !self.has_ended && !self.output.is_behind() && self.input.room() > 0
+    /// Whether bytes are wanted, where all that came was taken and said: the other end is not behind, neither end closes, and
+    /// there is room.
+    pub fn wants(&self) -> bool
+        ensures { result ≡ web_wants (talk_of self.now) }
+    {
+        !self.is_closing && !self.output.is_behind() && self.input.len() < LONGEST_FRAME
     }
 
     /// How many bytes it holds, beside the 128 that are kept of a line and the fragments of one message: those that came and
     /// were not taken or said, and those to be written.
     pub fn held(&self) -> usize
+        ensures value { result ≡ length (talk_of self.now).input + length (talk_of self.now).unsaid.rest
+            + length (talk_of self.now).output + length (talk_of self.now).pong }
         ensures most { result ≤ most_input + most_heard + most_told + most_answer }
     {
         self.input.len() + self.cutter.len() + self.output.len() + self.pong.len()
@@ -93,12 +98,14 @@ impl Web {
     /// Hears the first of these bytes for which there is room: how many. `Err`, and nothing is heard, where there is no
     /// memory for them.
     pub fn hear(&mut self, bytes: &[u8]) -> Result<usize, Gone>
-        ensures some { IfOk result (λ n. n ≤ length bytes.now) }
+        ensures count { IfOk result (λ n. n ≡ web_count (talk_of self.old) (length bytes.now)) }
+        ensures output { (talk_of self.new).output ≡ (talk_of self.old).output }
+        ensures closing { (talk_of self.new).closing ≡ (talk_of self.old).closing }
         ensures speaks { IfOk result (λ n. (p : Passed) → Speaks p (talk_of self.old) →
             Speaks (record p { heard = p.heard ++ take n bytes.now }) (talk_of self.new)) }
         ensures err { OnErr result (talk_of self.new ≡ talk_of self.old) }
     {
-        if self.is_closing || self.has_ended {
+        if self.is_closing {
             return Ok(0);
         }
         let count = bytes.len().min(self.input.room());
@@ -108,18 +115,12 @@ impl Web {
         }
     }
 
-    /// No more bytes come.
-    pub fn end(&mut self)
-        ensures { talk_of self.new ≡ talk_of self.old }
-    {
-        self.has_ended = true;
-    }
-
     /// Says the next line of the messages that were taken, if there is one.
     pub fn next(&mut self) -> Option<Fed>
         ensures speaks { (p : Passed) → Speaks p (talk_of self.old) →
             Speaks (record p { said = p.said ++ said_of result }) (talk_of self.new) }
         ensures none { IfNone result ((talk_of self.new).unsaid.rest ≡ []) }
+        ensures closing { (talk_of self.new).closing ≡ (talk_of self.old).closing }
     {
         self.cutter.next()
     }
@@ -129,11 +130,11 @@ impl Web {
     /// there is no memory or no room, or nothing can be answered: the connection is to go.
     pub fn step(&mut self) -> Result<bool, Gone>
         ensures speaks { OnOk result ((p : Passed) → Speaks p (talk_of self.old) → Speaks p (talk_of self.new)) }
-        ensures short { IfOk result (λ took. took ≡ false → MayTake (talk_of self.old) →
+        ensures short { IfOk result (λ took. took ≡ false → MayTake (talk_of self.new) →
             IsShort (talk_of self.new).conn (talk_of self.new).input) }
+        ensures unsaid { IfOk result (λ took. took ≡ false → (talk_of self.new).unsaid ≡ (talk_of self.old).unsaid) }
     {
         if self.cutter.len() > 0 || self.is_closing || self.output.is_behind() {
-            self.answer_ping();
             return Ok(false);
         }
         let took = self.take()?;
@@ -149,6 +150,7 @@ impl Web {
             Speaks p (talk_of self.old) → Speaks p (talk_of self.new)) }
         ensures short { IfOk result (λ took. took ≡ false →
             IsShort (talk_of self.new).conn (talk_of self.new).input) }
+        ensures unsaid { IfOk result (λ took. took ≡ false → (talk_of self.new).unsaid ≡ (talk_of self.old).unsaid) }
     {
         let mut input = self.input.take();
         let taken = self.take_frame(input.as_mut_slice())?;
@@ -168,6 +170,7 @@ impl Web {
         ensures takes { IfOk result (λ taken. (talk_of self.old).conn.role ≡ Role.Server →
             Takes taken bytes.old bytes.new (talk_of self.old) (talk_of self.new)) }
         ensures short { IfOk result (λ taken. taken ≡ Taken.Short → IsShort (talk_of self.new).conn bytes.new) }
+        ensures unsaid { IfOk result (λ taken. taken ≡ Taken.Short → (talk_of self.new).unsaid ≡ (talk_of self.old).unsaid) }
         ensures input { OnOk result ((talk_of self.new).input ≡ (talk_of self.old).input) }
     {
         let mut answer = BytesMut::new(self.alloc);
@@ -226,6 +229,8 @@ impl Web {
     pub fn close(&mut self, code: CloseCode) -> Result<(), Gone>
         ensures closes { OnOk result ((talk_of self.new).closing ≡ true) }
         ensures speaks { OnOk result ((p : Passed) → Speaks p (talk_of self.old) → Speaks p (talk_of self.new)) }
+        ensures adds { OnOk result ((p : Passed) → Speaks p (talk_of self.old) → (talk_of self.old).conn.state ≡ State.Active →
+            (talk_of self.new).output ≡ (talk_of self.old).output ++ control_frame Control.Close (close_payload (Some (code, [])))) }
     {
         self.shut(code)
     }
@@ -237,6 +242,8 @@ impl Web {
         ensures does { OnOk result ((talk_of self.old).conn.role ≡ Role.Server →
             Does [] (talk_of self.old) (talk_of self.new) × ((talk_of self.new).conn.role ≡ (talk_of self.old).conn.role)) }
         ensures input { OnOk result ((talk_of self.new).input ≡ (talk_of self.old).input) }
+        ensures adds { OnOk result ((p : Passed) → Speaks p (talk_of self.old) → (talk_of self.old).conn.state ≡ State.Active →
+            (talk_of self.new).output ≡ (talk_of self.old).output ++ control_frame Control.Close (close_payload (Some (code, [])))) }
     {
         self.is_closing = true;
         let frame = CloseFrame { code, reason: "" };
@@ -249,7 +256,9 @@ impl Web {
 
     /// Asks the other end for a sign of it. `Err` where it is closing, and where there is no room or no memory for it.
     pub fn ping(&mut self) -> Result<(), Gone>
-        ensures { OnOk result ((p : Passed) → Speaks p (talk_of self.old) → Speaks p (talk_of self.new)) }
+        ensures speaks { OnOk result ((p : Passed) → Speaks p (talk_of self.old) → Speaks p (talk_of self.new)) }
+        ensures adds { OnOk result ((p : Passed) → Speaks p (talk_of self.old) →
+            (talk_of self.new).output ≡ (talk_of self.old).output ++ control_frame Control.Ping []) }
     {
         let mut ping = BytesMut::new(self.alloc);
         match self
@@ -262,15 +271,18 @@ impl Web {
     }
 
     /// Whether so many bytes wait to be written that nothing more may be told.
-    pub fn is_behind(&self) -> bool {
+    pub fn is_behind(&self) -> bool
+        ensures { result ≡ web_behind (talk_of self.now) }
+    {
         self.output.is_behind()
     }
 
     /// Tells this text, in a message of its own. `Err`, and nothing is told, where the other end is behind, the connection is
     /// closing, the text has more than a mebibyte or is not UTF-8, or there is no memory for it.
     pub fn tell(&mut self, text: &[u8]) -> Result<(), Gone>
-        ensures { OnOk result ((p : Passed) → Speaks p (talk_of self.old) →
+        ensures speaks { OnOk result ((p : Passed) → Speaks p (talk_of self.old) →
             Speaks (record p { told = p.told ++ text.now ∷ [] }) (talk_of self.new)) }
+        ensures err { OnErr result ((p : Passed) → Speaks p (talk_of self.old) → Speaks p (talk_of self.new)) }
     {
         self.answer_ping();
         let Ok(text) = str::from_utf8(text) else {
@@ -284,6 +296,8 @@ impl Web {
         ensures speaks { (p : Passed) → Speaks p (talk_of self.old) → Speaks p (talk_of self.new) }
         ensures conn { (talk_of self.new).conn ≡ (talk_of self.old).conn }
         ensures input { (talk_of self.new).input ≡ (talk_of self.old).input }
+        ensures unsaid { (talk_of self.new).unsaid ≡ (talk_of self.old).unsaid }
+        ensures closing { (talk_of self.new).closing ≡ (talk_of self.old).closing }
     {
         if self.pong.is_empty() || !self.output.is_empty() || self.is_closing {
             return;
@@ -318,7 +332,9 @@ impl Web {
     }
 
     /// Whether nothing more is to be written and the connection is closing.
-    pub fn is_done(&self) -> bool {
+    pub fn is_done(&self) -> bool
+        ensures { result ≡ ((talk_of self.now).closing && length (talk_of self.now).output == 0) }
+    {
         self.is_closing && self.output.is_empty()
     }
 }

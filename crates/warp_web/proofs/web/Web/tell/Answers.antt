@@ -3,8 +3,8 @@ use Rattle.warp_web.specs.Web.{Speaks, talk_of}
 use Rattle.warp_web.proofs.WebLemmas.{on_ok, speaks_told}
 use Rattle.warp_web.proofs.web.Web.tell.Goals as goal
 
-pub returns : goal.returns
-returns c =
+pub returns-clause-speaks : goal.returns-clause-speaks
+returns-clause-speaks c =
     on_ok c.add_text.result
     (λ leaves p s.
     let mid = talk_of c.answer_ping.new.self in
