@@ -284,7 +284,7 @@ def no_fresh_file():
             sent.append("event 0 70 0 0 1")
             wait_for(lambda: len(remarks(host)) == 5, "what is said")
             anew = "journal: it can't be written anew: "
-            same(remarks(host), [fails(NO_SPACE), anew + "Is a directory (os error 21)", anew + READ_ONLY, anew + NO_QUOTA, renewed(4)], "what is said")
+            same(remarks(host), [fails(NO_SPACE), anew + "FILE.new is a folder", anew + READ_ONLY, anew + NO_QUOTA, renewed(4)], "what is said")
             host.finish()
         finally:
             host.kill()

@@ -510,6 +510,12 @@ def following():
     yield followed("many places of a serve", *serve, (f"peer log 200 {FIVE}", *(f"log {n}" for n in range(2, 66)), FIVE),
                    *((f"peer log 200 {SIX}", f"log {n}", SIX) for n in range(66, 201)), *((f"peer log 200 {SIX}", SIX) for _ in range(63)),
                    (f"peer log 200 {SIX}", "log 201", SIX), ("peer none 200", "level"))
+    told = [("doubt", "program"), ("doubt",), (f"peer * log 1 {FIVE}", FIVE), ("doubt",), (HOST,)]
+    yield followed("a host that is asked whether it is there", ("doubt",), *watched(1), *told, (f"peer * log 2 {SIX}", SIX), ("doubt", "program"), (HOST,),
+                   (HOST, "strange", "over"), ("doubt", "over"), HELLO, ("doubt",), *watched(1, ("log 2", f"peer log 2 {SIX}")), ("doubt", "program"),
+                   ("peer program 1 there", "strange", "over"), HELLO, *watched(1, ("log 2", f"peer log 2 {SIX}")), ("doubt", "program"), ("lose", "over"),
+                   HELLO, *watched(1, ("log 2", f"peer log 2 {SIX}")), (HOST, "strange", "over"))
+    yield followed("a serve is not asked so", *serve, ("doubt",), ("peer none 0", "level"), ("doubt", "level"), ("again", "log 1"))
     yield followed("a serve that is busy", *serve, ("peer refused 10", "strange", "over"), HELLO, *serve, ("peer none 1", "strange", "over"))
     for other in ("program 1 there", "program 2 here", "program 1 here and there"):
         yield followed(f"no token for a host of {other}", (f"peer {other}", "another program", "over"), ("lose", "over"), program=BEHIND)

@@ -15,6 +15,9 @@ from hosting import TWICE, get
 from hosting import begun as Hosted
 from loopback import HOST, holds, same, wait_for
 
+# A user who is neither root nor the one of these scripts.
+ANOTHER_USER = 54_321
+
 
 def ended(*words, status, error, output="", mode=None):
     """A run with these words ends so, where a file or folder has this mode."""
@@ -45,6 +48,13 @@ def refused_starts():
             ended("host", TWICE, words, folder, status=3, error=f"{folder}: others may read or write it (mode 720; chmod 600 {folder})\n"
                   f"others may read or write the tokens{which}\n", mode=(folder, 0o720))
             ended("host", TWICE, words, folder, status=4, error=f"{folder}: {is_folder}\ncannot read the tokens{which}\n", mode=(folder, 0o700))
+            if os.geteuid() == 0:
+                other = Path(folder, "other")
+                other.write_text("one *\n")
+                other.chmod(0o600)
+                os.chown(other, ANOTHER_USER, -1)
+                ended("host", TWICE, words, other, status=3, error=f"{other}: user {ANOTHER_USER}, whose it is, may read or write it "
+                      f"(chown it to the host's user)\nothers may read or write the tokens{which}\n")
         ended("host", TWICE, "--listen", "0.0.0.0:0", status=2,
               error="--listen 0.0.0.0:0: other machines may reach it\nlistening there wants --tokens, or --open if that is meant\n")
         for word in ("nowhere", "localhost:7070", "127.0.0.1", "127.0.0.1:65536", ":7070"):
@@ -71,7 +81,8 @@ def no_files():
         pipe, link, why = Path(folder, "pipe"), Path(folder, "link"), "it is no regular file"
         os.mkfifo(pipe, 0o600)
         link.symlink_to(pipe)
-        for path in (pipe, link, "/dev/zero"):
+        # The system makes what stands under /proc as it is read, some of it when there is something.
+        for path in (pipe, link, "/dev/zero", "/proc/version"):
             ended("host", path, status=4, error=f"{path}: {why}\ncannot read the program\n")
             ended("check", path, status=4, error=f"cannot read the program\n{why}\n")
             for which, words in (("", "--tokens"), (" of peers", "--peer-tokens")):

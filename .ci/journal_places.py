@@ -1,8 +1,10 @@
 """The cases of `.ci/journal` over where a journal stands: other names of one file, a lock that is gone, what stands beside it, and a file
 that is removed, renamed, cut short, written to or replaced while a host writes it."""
 
+import errno
 import os
 import subprocess
+import time
 from pathlib import Path
 
 import hosting
@@ -12,6 +14,9 @@ from journals import Room, fill, in_use, remarks, renewed
 from loopback import holds, same, wait_for
 
 GONE, SHORT, LONG = "it was removed, renamed or replaced", "it was cut short", "another wrote to it"
+NO_FRESH = "journal: it can't be written anew: FILE.new is a folder"
+# A user who is neither root nor the one of these scripts.
+ANOTHER_USER = 54_321
 ANOTHER = "journal: it can't be written anew: another file stands under its name"
 
 
@@ -156,7 +161,35 @@ def beside():
                 room.ended("journal", "repair", room.file, status=4, error=words)
                 file.rmdir() if file.is_dir() else file.unlink()
             same((room.file.read_bytes(), victim.read_bytes()), (there, b"another's\n"), "the files")
+        other_name = f"journal {room.file}: FILE.damaged has a second name, or is another user's\ncannot use the journal\n"
+        # Here the journal ends with a torn line, so that there is something to keep aside.
+        os.link(victim, aside)
+        same(room.refused(4, other_name), other_name, "a start beside a second name of a file")
+        room.ended("journal", "repair", room.file, status=4, error=other_name)
+        same((room.file.read_bytes(), victim.read_bytes()), (data + b"event", b"another's\n"), "the files")
+        aside.unlink()
+        if os.geteuid() == 0:
+            aside.write_bytes(b"")
+            os.chown(aside, ANOTHER_USER, -1)
+            same(room.refused(4, other_name), other_name, "a start beside another user's file")
+            aside.unlink()
         room.file.write_bytes(data)
+        fresh.mkdir()
+        is_folder = f"journal {room.file}: FILE.new is a folder\ncannot use the journal\n"
+        same(room.refused(4, is_folder), is_folder, "a start beside a folder")
+        fresh.rmdir()
+        host = room.host()
+        try:
+            fresh.mkdir()
+            room.file.unlink()
+            wait_for(lambda: remarks(host) == [lost(GONE), NO_FRESH], "what is said", 30)
+            time.sleep(3)
+            same(remarks(host), [lost(GONE), NO_FRESH], "what is said behind more tries")
+            fresh.rmdir()
+            wait_for(lambda: remarks(host) == [lost(GONE), NO_FRESH, renewed(3)], "what is said", 30)
+            host.finish()
+        finally:
+            host.kill()
         for make in (lambda path: os.symlink(victim, path), lambda path: os.link(victim, path)):
             make(fresh)
             room.holds_log(sent, said=[journals.LEFT])
@@ -184,6 +217,9 @@ def no_file():
             same((said.returncode, said.stdout, said.stderr), (4, "", journals.unusable(path, 22)), f"a start over {path}")
             for action in ("check", "repair"):
                 room.ended("journal", action, path, status=4, error=journals.unusable(path, 22))
+        for action in ("check", "repair"):
+            room.ended("journal", action, room.file, status=4, error=journals.unusable(room.file, errno.ENOENT))
+        same(sorted(it.name for it in Path(room.folder.name).iterdir()), ["pipe", "program.json"], "what stands there")
 
 
 CASES = [one_host, moved, replaced, permissions, beside, no_file]

@@ -124,6 +124,8 @@ def old_first(data):
 
 
 OLD = "journal: it was of form 1; it was written anew, of form 2"
+ONLY_COPY = ("journal {file}: it has no record, and FILE.new may have some: put that in its place, or move it away\n"
+             "cannot use the journal\n")
 LEFT = "journal: it could not be written when a host ended; it was written anew"
 NO_RECORD = "is no record of this program's form, and no sum"
 WRONG_SUM = "is not the sum of what stands before it"
@@ -159,7 +161,7 @@ def read(data):
             records.append(line.decode())
         else:
             *rest, torn = data[kept:].split(b"\n")
-            later = len(rest) > MOST_TORN + 1 or len(torn) > LONGEST or any(it.startswith(b"= ") or len(it) > LONGEST for it in rest)
+            later = len(rest) > MOST_TORN + 1 or len(torn) > LONGEST or any(b"=" in it or len(it) > LONGEST for it in rest)
             return Read(records, kept, number, WRONG_SUM if line.startswith(b"= ") else NO_RECORD, later)
         digest.update(data[kept:end])
         kept, number = end, number + 1

@@ -2,7 +2,8 @@
 //! `first T` where the peer wants a token, behind its program or first. Each further line is a call, and what it said to
 //! the peer and handed to the hub is told behind it:
 //!
-//! - `connect` begins a connection, `lose` ends it, `again` asks a `serve` again after a pause;
+//! - `connect` begins a connection, `lose` ends it, `again` asks a `serve` again after a pause, `doubt` asks a host whether
+//!   it is there;
 //! - `peer TEXT` is a line of the peer, `part TEXT` bytes of it without a line feed;
 //! - `hub TEXT` is an answer of the hub to a line that it was handed.
 use crate::lines::{form_of, word_of};
@@ -81,6 +82,7 @@ fn make_call(
         "connect" => say_done(out, follower.connect(&mut sides.said)),
         "lose" => follower.lose(),
         "again" => say_done(out, follower.ask_again(&mut sides.said)),
+        "doubt" => say_done(out, follower.doubt(&mut sides.said)),
         "peer" => {
             take(out, follower, sides, rest.as_bytes());
             take(out, follower, sides, b"\n");

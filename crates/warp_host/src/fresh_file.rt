@@ -129,15 +129,21 @@ fn path_beside(alloc: Global, path: &str) -> Result<String, AllocError> {
 /// Who may read and write the files of a journal that are made: their owner alone.
 pub(crate) const OWNER_ALONE: u32 = 0o600;
 
-/// The file at this path with `.damaged` behind its name, to which bytes are put that are cut off; and its path.
+/// The file at this path with `.damaged` behind its name, to which bytes are put that are cut off, of a journal of this
+/// owner; and its path. A file that has a second name, or is another's, is refused.
 fn open_aside<F: Files<File = File>>(
     files: &F,
     alloc: Global,
     path: &str,
+    owner: u32,
 ) -> Result<(File, String), FileFault> {
     let mut name = String::from_str(alloc, path)?;
     name.push_str(".damaged")?;
     let aside = open_regular(files, name.as_str(), OWNER_ALONE, FileFault::NoAside)?;
+    let about = aside.metadata()?;
+    if about.nlink() != 1 || about.uid() != owner {
+        return Err(FileFault::OtherAside);
+    }
     Ok((aside, name))
 }
 
@@ -150,7 +156,8 @@ pub fn keep_aside<F: Files<File = File>>(
     file: &mut File,
     kept: u64,
 ) -> Result<String, FileFault> {
-    let (mut aside, name) = open_aside(files, alloc, path)?;
+    let owner = file.metadata()?.uid();
+    let (mut aside, name) = open_aside(files, alloc, path, owner)?;
     let mut buffer = vec![in alloc; 0u8; PIECE]?;
     file.seek(SeekFrom::Start(kept))?;
     for _ in 0..u64::MAX {
@@ -185,8 +192,13 @@ fn left_by<F: Files<File = File>>(files: &F, path: &str, owner: u32) -> Option<F
     }
 }
 
-/// Removes the file of this name, if there is one.
+/// Removes the fresh file of this name, if there is one.
 fn remove<F: Files<File = File>>(files: &F, path: &str) -> Result<(), FileFault> {
+    if let Ok(about) = fs::symlink_metadata(files, path) {
+        if about.is_dir() {
+            return Err(FileFault::NoFresh);
+        }
+    }
     match fs::remove_file(files, path) {
         Ok(()) => Ok(()),
         Err(error) => {
@@ -288,17 +300,28 @@ pub(crate) fn take_place<F: Files<File = File>>(
     sync_folder(files, place.path.as_str())
 }
 
-/// Whether a host ended while this journal could not be written: it left the fresh file.
+/// Whether a host ended while the journal at this path, behind links, could not be written: it left the fresh file. Where
+/// the journal has no record, of so many, and the fresh file more than this first line, that may be the only copy of what
+/// was told, and is refused; a folder under its name is refused too.
 pub(crate) fn is_left<F: Files<File = File>>(
     files: &F,
     alloc: Global,
-    place: &JournalPlace,
-) -> Result<bool, AllocError> {
-    let name = path_beside(alloc, place.path.as_str())?;
-    match fs::metadata(files, name.as_str()) {
-        Ok(about) => Ok(about.is_file()),
-        Err(_) => Ok(false),
+    path: &str,
+    first: &[u8],
+    records: u32,
+) -> Result<bool, FileFault> {
+    let name = path_beside(alloc, path)?;
+    let Ok(about) = fs::metadata(files, name.as_str()) else {
+        return Ok(false);
+    };
+    if about.is_dir() {
+        return Err(FileFault::NoFresh);
     }
+    let is_longer = about.len() > first.len() as u64 + 1;
+    if about.is_file() && records == 0 && is_longer {
+        return Err(FileFault::OnlyCopy);
+    }
+    Ok(about.is_file())
 }
 
 /// What the journal's thread needs of the system's files. It is a trait of its own, since `Files` has a type of folders

@@ -48,6 +48,12 @@ pub enum FileFault {
     NoLock,
     /// What stands beside it with `.damaged` behind its name is no regular file.
     NoAside,
+    /// What stands beside it with `.damaged` behind its name has a second name, or is another user's.
+    OtherAside,
+    /// What stands beside it with `.new` behind its name is a folder.
+    NoFresh,
+    /// It has no record, and the fresh file beside it may have some.
+    OnlyCopy,
 }
 
 impl From<AllocError> for FileFault {
@@ -80,6 +86,11 @@ impl FileFault {
             FileFault::Other => Some("another file stands under its name"),
             FileFault::NoLock => Some("FILE.lock is no regular file"),
             FileFault::NoAside => Some("FILE.damaged is no regular file"),
+            FileFault::OtherAside => Some("FILE.damaged has a second name, or is another user's"),
+            FileFault::NoFresh => Some("FILE.new is a folder"),
+            FileFault::OnlyCopy => Some(
+                "it has no record, and FILE.new may have some: put that in its place, or move it away",
+            ),
             FileFault::Open(_) | FileFault::System(_) => None,
         }
     }
@@ -93,6 +104,7 @@ impl FileFault {
             (FileFault::Short, FileFault::Short) => true,
             (FileFault::Long, FileFault::Long) => true,
             (FileFault::Other, FileFault::Other) => true,
+            (FileFault::NoFresh, FileFault::NoFresh) => true,
             _ => false,
         }
     }
@@ -114,7 +126,10 @@ pub fn tell_file_fault<X: Eprint>(rt: &X, path: &str, fault: FileFault) -> OpenF
         | FileFault::Long
         | FileFault::Other
         | FileFault::NoLock
-        | FileFault::NoAside => {
+        | FileFault::NoAside
+        | FileFault::OtherAside
+        | FileFault::NoFresh
+        | FileFault::OnlyCopy => {
             let why = fault.words().unwrap_or("");
             let _ = eprintln!(rt; "journal {path}: {why}");
             OpenFault::Unusable

@@ -11,7 +11,7 @@ use crate::journal_faults::{FileFault, OpenFault, tell_file_fault};
 use crate::renewal::take_in_batches;
 use crate::scribe::second_now;
 use std::alloc::Global;
-use std::fs::{File, Files, OpenOptions};
+use std::fs::{self, File, Files, OpenOptions};
 use std::io::{self, Eprint, Read, Seek, Write};
 use std::os::unix::fs::OpenOptionsExt;
 use std::time::{Clock, Duration};
@@ -367,6 +367,33 @@ fn open_file<F: Files<File = File>>(files: &F, path: &str) -> Result<File, FileF
     Ok(file)
 }
 
+/// Begins a journal in this file, which has nothing but a front of its first line, unless what was told may be beside it.
+fn begun<F: Files<File = File>>(
+    files: &F,
+    alloc: Global,
+    file: File,
+    place: &JournalPlace,
+) -> Result<(JournalFile, Journal), FileFault> {
+    let _is_left = is_left(files, alloc, place.path.as_str(), &place.first, 0)?;
+    begin(alloc, file, &place.first)
+}
+
+/// Where nothing stands at this path, refuses what stands beside it where that may be the only copy of what was told. No
+/// file is made then, but that of the lock, nor where another host has the lock: it writes its journal anew just now.
+fn refuse_lost<F: Files<File = File>>(
+    files: &F,
+    alloc: Global,
+    path: &str,
+    first: &[u8],
+) -> Result<(), FileFault> {
+    if fs::symlink_metadata(files, path).is_ok() {
+        return Ok(());
+    }
+    let _lock = lock_journal(files, alloc, path)?;
+    let _is_left = is_left(files, alloc, path, first, 0)?;
+    Ok(())
+}
+
 /// Where the journal of this file stands, that was opened by this path: no other took its place since.
 fn place_of<F: Files<File = File>>(
     files: &F,
@@ -469,7 +496,7 @@ fn keep_on<X: Files<File = File> + Eprint + Clock, T: Timeline>(
     is_old: bool,
     replica: &Replica<T>,
 ) -> Result<Keeper<JournalFile>, FileFault> {
-    let is_left = is_left(rt, alloc, place)?;
+    let is_left = is_left(rt, alloc, place.path.as_str(), &place.first, journal.len())?;
     if is_left || is_old {
         // What was read of the old file may not be on the disk, where a sync of it failed.
         let keeper = write_again(rt, alloc, place, &disk, replica)?;
@@ -510,6 +537,7 @@ fn opened<X: Files<File = File> + Eprint + Clock, T: Timeline>(
     lines: FirstLines<'_>,
     replica: &mut Replica<T>,
 ) -> Result<OpenJournal, FileFault> {
+    refuse_lost(rt, alloc, path, lines.new)?;
     make_file(rt, path)?;
     let lock = lock_journal(rt, alloc, path)?;
     // It is opened behind the lock: the file may have been written anew until then.
@@ -518,7 +546,7 @@ fn opened<X: Files<File = File> + Eprint + Clock, T: Timeline>(
     let first = first_of(alloc, &mut file, lines)?;
     let (disk, journal) = match first {
         Some(first) => go_on(rt, alloc, path, file, first, replica)?,
-        None => begin(alloc, file, lines.new)?,
+        None => begun(rt, alloc, file, &place)?,
     };
     let is_old = first == Some(lines.old);
     let keeper = keep_on(rt, alloc, disk, journal, &mut place, is_old, replica)?;

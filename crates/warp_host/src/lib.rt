@@ -39,6 +39,7 @@ mod query;
 mod renewal;
 mod scribe;
 mod serving;
+mod silence;
 mod socket;
 mod speech;
 mod steps;

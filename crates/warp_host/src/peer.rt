@@ -3,6 +3,7 @@
 use crate::operator;
 use crate::peer_news::{NewsOfPeer, PeerNews};
 use crate::post::Post;
+use crate::silence::Silence;
 use crate::socket::{Gone, Socket};
 use std::alloc::Global;
 use std::io::Eprint;
@@ -63,6 +64,8 @@ pub(crate) struct Peer {
     has_brought: bool,
     /// When a server that has nothing new is asked again.
     asks_at: Option<Duration>,
+    /// Since when it says nothing.
+    silence: Silence,
     /// It is followed, as the operator knows.
     pub(crate) is_found: bool,
     /// What the operator was told last of why it isn't.
@@ -93,6 +96,7 @@ impl Peer {
             since: None,
             has_brought: false,
             asks_at: None,
+            silence: Silence::new(now),
             is_found: false,
             told: None,
             is_lost_told: false,
@@ -136,7 +140,13 @@ impl Peer {
             Way::Begun(_, since) => {
                 Some(since.saturating_add(Duration::from_millis(LONGEST_CONNECT)))
             }
-            Way::Open(_) => self.asks_at,
+            Way::Open(_) => {
+                let silent = self.silence.due_time();
+                match self.asks_at {
+                    Some(time) => Some(time.min(silent)),
+                    None => Some(silent),
+                }
+            }
         }
     }
 
@@ -170,7 +180,8 @@ impl Peer {
             return Ok(());
         }
         self.ask_again(now)?;
-        self.hear(buffer)?;
+        self.hear(buffer, now)?;
+        self.mind_silence(now)?;
         self.hand_on(post);
         self.hear_answers(post);
         self.send()?;
@@ -216,6 +227,7 @@ impl Peer {
         self.said.clear();
         self.way = Way::Open(socket);
         self.since = Some(now);
+        self.silence = Silence::new(now);
         match self.follower.connect(&mut self.said) {
             Ok(()) => Ok(()),
             Err(_) => Err(Gone),
@@ -237,13 +249,29 @@ impl Peer {
         }
     }
 
-    /// Reads once of the peer, where nothing waits for the hub, and hears what came.
-    fn hear(&mut self, buffer: &mut [u8]) -> Result<(), Gone> {
+    /// Asks a peer that says nothing whether it is there. One that says nothing behind that is gone.
+    fn mind_silence(&mut self, now: Duration) -> Result<(), Gone> {
+        if self.silence.is_over(now) {
+            return Err(Gone);
+        }
+        if !self.silence.asks(now) {
+            return Ok(());
+        }
+        match self.follower.doubt(&mut self.said) {
+            Ok(()) => Ok(()),
+            Err(_) => Err(Gone),
+        }
+    }
+
+    /// Reads once of the peer, where nothing waits for the hub, and hears what came. It is not silent while it is not read.
+    fn hear(&mut self, buffer: &mut [u8], now: Duration) -> Result<(), Gone> {
         if !self.kept.is_empty() {
+            self.silence = Silence::new(now);
             let kept = std::mem::replace(&mut self.kept, Vec::new(*self.said.allocator()));
             return self.hear_bytes(&kept);
         }
         if self.handed.len() >= MOST_HANDED {
+            self.silence = Silence::new(now);
             return Ok(());
         }
         let Way::Open(socket) = &mut self.way else {
@@ -252,6 +280,9 @@ impl Peer {
         let count = socket.read(buffer)?;
         if socket.has_ended {
             return Err(Gone);
+        }
+        if count > 0 {
+            self.silence = Silence::new(now);
         }
         self.hear_bytes(&buffer[..count])
     }

@@ -1,5 +1,5 @@
 -- Following the log of a peer: which of its lines tell a record, and what of them is handed to the hub.
-use Rattle.std.specs.Prelude.{◌≡◌, ◌⊎◌, ℕ, ◌+◌, ◌-◌, ◌<◌, ◌≤◌, Bool, true, false, IsTrue, List, [], ◌∷◌, ◌++◌, codes, Option, Some}
+use Rattle.std.specs.Prelude.{◌≡◌, ◌⊎◌, ℕ, ◌+◌, ◌-◌, ◌<◌, ◌≤◌, Bool, true, false, IsTrue, List, [], ◌∷◌, ◌++◌, codes, Option, None, Some}
 use Rattle.warp_tag.specs.declared.form.Form.{Form}
 use Rattle.warp_record.specs.declared.record.Record.{Record}
 use Rattle.warp_record.specs.declared.reply.Reply.TheVariants.{Log}
@@ -10,13 +10,14 @@ use Rattle.warp_record.specs.Lines.Piece.{Whole, Long, Torn}
 use Rattle.warp_hub.specs.declared.follow.PeerEvent.{PeerEvent}
 use Rattle.warp_hub.specs.declared.follow.PeerEvent.TheVariants.{NoMemory}
 use Rattle.warp_hub.specs.declared.follow.Phase.{Phase}
-use Rattle.warp_hub.specs.declared.follow.Phase.TheVariants.{Over, Pushed, Asked}
+use Rattle.warp_hub.specs.declared.follow.Phase.TheVariants.{Over, Pushed, Doubted, Asked}
 
--- what is kept of the peer's unfinished line, the form of its records, what is due from it, the place of the record that
--- comes next, and how many of those before it were handed to the hub and not answered yet
+-- what is kept of the peer's unfinished line, the form of its records, the own program's line, what is due from the peer,
+-- the place of the record that comes next, and how many of those before it were handed to the hub and not answered yet
 pub record FollowState : Type 0 where
   pub kept : Option (List ℕ)
   pub form : Form
+  pub program : List ℕ
   pub phase : Phase
   pub next : ℕ
   pub missing : ℕ
@@ -24,6 +25,7 @@ pub record FollowState : Type 0 where
 -- records of its log are due
 abbrev pub follows : Phase → Bool
 follows Pushed = true
+follows Doubted = true
 follows Asked = true
 follows other = false
 
@@ -31,6 +33,7 @@ follows other = false
 -- it. Where no records are due no line does.
 abbrev pub TellsRecord : Form → Phase → ℕ → List ℕ → Record → Type 0
 TellsRecord f Pushed place line said = IsReply f (Log place said) × (line ≡ codes "* " ++ reply_spelling (Log place said))
+TellsRecord f Doubted place line said = IsReply f (Log place said) × (line ≡ codes "* " ++ reply_spelling (Log place said))
 TellsRecord f Asked place line said =
     (log : ℕ) × IsReply f (Log log said) × (place ≤ log) × (line ≡ reply_spelling (Log log said))
 TellsRecord f other place line said = ⊥
@@ -49,11 +52,18 @@ HandsNothing s line handed event s' handed' =
     (handed' ≡ handed) × (IsTrue (follows s.phase) → (s'.next ≡ s.next) × (s'.missing ≡ s.missing) × (follows s'.phase ≡ false))
     × ((said : Record) → TellsRecord s.form s.phase s.next line said → (event ≡ Some NoMemory) × (s'.phase ≡ Over))
 
+-- A host that was asked whether it is there answers with the own program's line: it is followed on, and nothing is handed to
+-- the hub.
+abbrev pub IsThere : FollowState → List ℕ → List ℕ → Option PeerEvent → FollowState → List ℕ → Type 0
+IsThere s line handed event s' handed' =
+    (s.phase ≡ Doubted) × (line ≡ s.program) × (handed' ≡ handed) × (event ≡ None)
+    × (s'.phase ≡ Pushed) × (s'.next ≡ s.next) × (s'.missing ≡ s.missing)
+
 -- What hearing a line of the peer does, and what of it is to be told: the record that it tells is handed to the hub, and
 -- nothing else ever is.
 abbrev pub Hears : FollowState → List ℕ → List ℕ → Option PeerEvent → FollowState → List ℕ → Type 0
 Hears s line handed event s' handed' =
-    HandsOn s line handed s' handed' ⊎ HandsNothing s line handed event s' handed'
+    HandsOn s line handed s' handed' ⊎ (HandsNothing s line handed event s' handed' ⊎ IsThere s line handed event s' handed')
 
 -- the same of a line as it was cut: one of more than 128 bytes ends the connection
 abbrev pub HearsPiece : FollowState → Piece → List ℕ → Option PeerEvent → FollowState → List ℕ → Type 0

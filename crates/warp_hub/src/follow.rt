@@ -2,7 +2,7 @@
 //!
 //! A follower has no socket and no clock: bytes of the peer come in; bytes to the peer go out, and lines for the hub,
 //! each a record that the peer told. It keeps no more of the peer's bytes than one unfinished line.
-ghost use Rattle.std.specs.Prelude.{◌≡◌, ◌↔◌, ℕ, List, ◌+◌, ◌-◌, ◌<◌, ◌≤◌, [], ◌∷◌, ◌++◌, false, IfNone, IfSome, IsTrue, OnErr};
+ghost use Rattle.std.specs.Prelude.{◌≡◌, ◌≢◌, ◌↔◌, ◌⊎◌, ℕ, List, ◌+◌, ◌-◌, ◌<◌, ◌≤◌, [], ◌∷◌, ◌++◌, false, IfNone, IfSome, IsTrue, OnErr, codes};
 ghost use Rattle.std.specs.Prelude.{OnOk, length, min};
 ghost use Rattle.std.specs.List.{before_first};
 ghost use Rattle.warp_tag.specs.Limits.{most_records, widest};
@@ -69,6 +69,8 @@ pub enum Phase {
     Watch,
     /// Pushes of a host.
     Pushed,
+    /// Pushes of a host, and the answer to the question whether it is there.
+    Doubted,
     /// Answers of a `serve` to `log P`.
     Asked,
     /// Nothing: all that a `serve` has is here.
@@ -85,8 +87,8 @@ pub struct PeerToken {
     pub is_first: bool,
 }
 
-/// Follows the log of one peer. Contracts see what it keeps of an unfinished line, the form of its records, what is due
-/// from the peer, and the place of the record that comes next.
+/// Follows the log of one peer. Contracts see what it keeps of an unfinished line, the form of its records, the own
+/// program's line, what is due from the peer, and the place of the record that comes next.
 #[derive(Drop)]
 pub struct Follower {
     form: Form,
@@ -119,7 +121,14 @@ impl Model for Follower {
     ghost Value = { FollowState };
 
     ghost view = { λ f.
-        record { kept = f.feed; form = f.form; phase = f.phase; next = f.next; missing = f.missing } };
+        record {
+          kept = f.feed;
+          form = f.form;
+          program = f.program.items;
+          phase = f.phase;
+          next = f.next;
+          missing = f.missing;
+        } };
 
     ghost invariant = { λ f.
         (f.missing < f.next) × (f.next ≤ most_records widest + 1) × (f.asked ≤ 64) × (f.len ≤ most_records widest) };
@@ -129,7 +138,14 @@ impl Follower {
     /// A follower of a peer from the first place of its log on. The records are of this form; the own program's line is
     /// what a host answers to `program`, without its line feed. The token is what the peer wants, if it wants one.
     pub fn new(form: Form, program: Vec<u8>, token: Option<PeerToken>) -> Follower
-        ensures { result ≡ record { kept = kept_of []; form = form; phase = Phase.Over; next = 1; missing = 0 } }
+        ensures { result ≡ record {
+          kept = kept_of [];
+          form = form;
+          program = program.items;
+          phase = Phase.Over;
+          next = 1;
+          missing = 0;
+        } }
     {
         Follower {
             form,
@@ -218,6 +234,24 @@ impl Follower {
         Ok(())
     }
 
+    /// Asks a host whose pushes are due whether it is there: it answers with its program. One that was asked and did not
+    /// answer yet is not asked again, and a `serve` not at all. At an `Err` it was not asked, and a part of the line may
+    /// stand in what is to be said: the connection is to be ended.
+    pub fn doubt(&mut self, said: &mut Vec<u8>) -> Result<(), OutOfMemory>
+        ensures asks { self.old.phase ≡ Phase.Pushed → OnOk result ((self.new ≡ record self.old { phase = Phase.Doubted })
+            × (said.new.items ≡ said.old.items ++ codes "program\n")) }
+        ensures other { self.old.phase ≢ Phase.Pushed → (result ≡ Ok tt) × (self.new ≡ self.old)
+            × (said.new.items ≡ said.old.items) }
+        ensures err { OnErr result (self.new ≡ self.old) }
+    {
+        if self.phase != Phase::Pushed {
+            return Ok(());
+        }
+        said.extend_from_slice(b"program\n")?;
+        self.phase = Phase::Doubted;
+        Ok(())
+    }
+
     /// Takes bytes of the peer up to and with the first line feed, or all where there is none; how many, and what is to
     /// be told. Where the line told a record that was due, that is handed to the hub, as a line.
     pub fn take(
@@ -227,7 +261,7 @@ impl Follower {
         handed: &mut Vec<u8>,
     ) -> (usize, Option<PeerEvent>)
         ensures taken { result.0 ≡ min (first_end bytes.now + 1) (length bytes.now) }
-        ensures form { self.new.form ≡ self.old.form }
+        ensures form { (self.new.form ≡ self.old.form) × (self.new.program ≡ self.old.program) }
         ensures waits { length bytes.now ≤ first_end bytes.now → (line : List ℕ) → self.old.kept ≡ kept_of line →
             (handed.new.items ≡ handed.old.items) × (self.new ≡ record self.old { kept = kept_of (line ++ bytes.now) }) }
         ensures hears { first_end bytes.now < length bytes.now → (line : List ℕ) → self.old.kept ≡ kept_of line →
@@ -265,7 +299,7 @@ impl Follower {
         ensures taken { result.0 ≡ min (first_end bytes.now + 1) (length bytes.now) }
         ensures counts { Counts self.old self.new }
         ensures kept { self.new.kept ≡ self.old.kept }
-        ensures form { self.new.form ≡ self.old.form }
+        ensures form { (self.new.form ≡ self.old.form) × (self.new.program ≡ self.old.program) }
     {
         let (count, fed) = self.answers.push(bytes);
         let event = match fed {
@@ -368,6 +402,7 @@ impl Follower {
             Phase::Check(is_host) => self.on_check(line, is_host, said),
             Phase::Watch => self.on_watching(line),
             Phase::Pushed => self.on_push(line, handed),
+            Phase::Doubted => self.on_push_in_doubt(line, handed),
             Phase::Asked => self.on_reply(line, said, handed),
         }
     }
@@ -508,9 +543,23 @@ impl Follower {
         })
     }
 
+    /// Hears of a host that was asked whether it is there: its answer, or a push.
+    fn on_push_in_doubt(&mut self, line: &[u8], handed: &mut Vec<u8>) -> Option<PeerEvent>
+        requires { self.old.phase ≡ Phase.Doubted }
+        ensures hears { Hears self.old line.now handed.old.items result self.new handed.new.items }
+        ensures others { self.new ≡ record self.old { phase = self.new.phase; next = self.new.next; missing = self.new.missing } }
+    {
+        let is_there = is_keyword(line, &self.program);
+        if is_there {
+            self.phase = Phase::Pushed;
+            return None;
+        }
+        self.on_push(line, handed)
+    }
+
     /// Hears a push of a host: the record at the next place.
     fn on_push(&mut self, line: &[u8], handed: &mut Vec<u8>) -> Option<PeerEvent>
-        requires { self.old.phase ≡ Phase.Pushed }
+        requires { (self.old.phase ≡ Phase.Pushed) ⊎ (self.old.phase ≡ Phase.Doubted) }
         ensures hears { Hears self.old line.now handed.old.items result self.new handed.new.items }
         ensures others { self.new ≡ record self.old { phase = self.new.phase; next = self.new.next; missing = self.new.missing } }
     {

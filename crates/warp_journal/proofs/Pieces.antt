@@ -1,8 +1,8 @@
 -- What a reading has taken goes on by a line, and by a piece.
-use Rattle.std.proofs.Common.{◌≡◌, ◌<◌, ◌≤◌, ◌+◌, ◌||◌, ℕ, suc, min, nat_lt, Bool, false, List, [], ◌∷◌, ◌++◌, length, take, codes, bytes_eq, ap, sym, subst, ◌∙◌, refl, inl, inr, arith, append_assoc}
+use Rattle.std.proofs.Common.{◌≡◌, ◌<◌, ◌≤◌, ◌+◌, ◌||◌, ℕ, suc, min, Bool, false, List, [], ◌∷◌, ◌++◌, length, take, codes, bytes_eq, ap, sym, subst, ◌∙◌, refl, inl, inr, arith, append_assoc}
 use Rattle.std.proofs.Common.{Option, Some, None, MatchOption}
 use Rattle.std.specs.Bool.{⊤}
-use Rattle.std.proofs.lemmas.Bool.{cases_lt, le-ltb, lt-ltb}
+use Rattle.std.proofs.lemmas.Bool.{cases_lt, lt-ltb}
 use Rattle.std.proofs.lemmas.List.{append-nil, length-append, length-take, take-take, take_all}
 use Rattle.std.proofs.lemmas.List.Elements.{All-append}
 use Rattle.warp_tag.specs.declared.form.Form.{Form}
@@ -16,27 +16,16 @@ use Rattle.warp_journal.specs.declared.journal.Journal.{Journal}
 use Rattle.warp_journal.specs.declared.reading.Lines.{Lines}
 use Rattle.warp_journal.specs.declared.reading.Rest.{Rest}
 use Rattle.warp_journal.specs.Journal.{IsFaultOf, IsNext, IsWrong, Keeps, begins_sum, line_of, sum_text, tells_seconds, with_found}
-use Rattle.warp_journal.specs.Reading.{AreLines, SumsTo, most_torn, shows_more}
+use Rattle.warp_journal.specs.Reading.{AreLines, SumsTo, has_equals, most_torn, shows_more}
 use Rattle.warp_journal.specs.Reading.AreLines.{NoLine, OneMore}
 use Rattle.warp_journal.specs.Reading.SumsTo.{More, Summed}
 use Rattle.warp_journal.specs.Pieces.{IsBehind, IsKept, most_held}
+use Rattle.warp_journal.proofs.Signs.{or_true}
 
 -- the first bytes of a line say whether it begins as a sum
 pub begins_same : (text line : List ℕ) → text ≡ take most_held line → begins_sum text ≡ begins_sum line
 begins_same text line is =
     ap (λ (it : List ℕ). bytes_eq (codes "= ") it) (ap (λ (it : List ℕ). take 2 it) is ∙ take-take 2 most_held line (omega arith))
-
--- and whether a torn batch may have it
-pub shows_same : (text line : List ℕ) → text ≡ take most_held line → shows_more text ≡ shows_more line
-shows_same text line is =
-    let many : length text ≡ min most_held (length line) = ap length is ∙ length-take most_held line in
-    let long : nat_lt longest_line (length text) ≡ nat_lt longest_line (length line) =
-    elim (cases_lt longest_line (length line)) [
-      | inl more ↦ lt-ltb longest_line (length text) (omega (arith, many, more)) ∙ sym (lt-ltb longest_line (length line) more)
-      | inr few ↦ le-ltb longest_line (length text) (omega (arith, many, few)) ∙ sym (le-ltb longest_line (length line) few)
-    ] in
-    ap (λ (b : Bool). b || nat_lt longest_line (length text)) (begins_same text line is)
-    ∙ ap (λ (b : Bool). begins_sum line || b) long
 
 -- a line that is not too long is its first bytes
 pub same_text : (text line : List ℕ) → length text ≤ longest_line → text ≡ take most_held line → text ≡ line
@@ -49,6 +38,15 @@ pub is_long : (text line : List ℕ) → longest_line < length text → text ≡
 is_long text line many is =
     let all : length text ≡ min most_held (length line) = ap length is ∙ length-take most_held line in
     omega (arith, all, many)
+
+-- the first bytes of a line say whether a torn batch may have it
+pub shows_same : (text line : List ℕ) → text ≡ take most_held line → shows_more text ≡ shows_more line
+shows_same text line is =
+    elim (cases_lt longest_line (length text)) [
+      | inl more ↦ ap (λ (b : Bool). has_equals text || b) (lt-ltb longest_line (length text) more) ∙ or_true (has_equals text)
+          ∙ sym (ap (λ (b : Bool). has_equals line || b) (lt-ltb longest_line (length line) (is_long text line more is)) ∙ or_true (has_equals line))
+      | inr few ↦ ap (λ (it : List ℕ). shows_more it) (same_text text line few is)
+    ]
 
 -- why a line that is too long does not go on
 pub long_wrong : (f : Form) (seconds : Bool) (count : ℕ) (before text line : List ℕ) (fault : Fault) →

@@ -1,5 +1,5 @@
 -- What reading the bytes of a journal keeps of them, what is said of the rest, and what a repair keeps.
-use Rattle.std.specs.Prelude.{◌≡◌, ◌≢◌, ◌⊎◌, ℕ, suc, ◌≤◌, ◌<◌, nat_lt, Bool, true, false, ◌||◌, List, [], ◌∷◌, ◌++◌, length, take, drop, Option, Some, None}
+use Rattle.std.specs.Prelude.{◌≡◌, ◌≢◌, ◌⊎◌, ℕ, suc, ◌≤◌, ◌<◌, ◌==◌, nat_lt, Bool, true, false, ◌||◌, List, [], ◌∷◌, ◌++◌, length, take, drop, Option, Some, None}
 use Rattle.warp_tag.specs.declared.form.Form.{Form}
 use Rattle.warp_tag.specs.Limits.{longest_line}
 use Rattle.warp_record.specs.Lines.{IsOneLine}
@@ -12,15 +12,20 @@ use Rattle.warp_journal.specs.declared.reading.Ending.{Ending}
 use Rattle.warp_journal.specs.declared.reading.Ending.TheVariants.{Whole, Torn, Cut, Damaged}
 use Rattle.warp_journal.specs.declared.reading.Found.{Found}
 use Rattle.warp_journal.specs.declared.reading.Front.{Front}
-use Rattle.warp_journal.specs.Journal.{IsWrong, Keeps, begins_sum, line_of, sum_text, tells_seconds}
+use Rattle.warp_journal.specs.Journal.{IsWrong, Keeps, line_of, sum_text, tells_seconds}
 
 -- of a batch that is torn so many lines may stand behind the one that does not go on
 abbrev pub most_torn : ℕ
 most_torn = 1024
 
--- no torn batch has a whole line of this text: it begins as a sum does, or is longer than a line may be
+-- the text has an equals sign, as each sum has and no record
+unfoldable pub has_equals : List ℕ → Bool
+has_equals [] = false
+has_equals (byte ∷ text) = (byte == 61) || has_equals text
+
+-- no torn batch has a whole line of this text: a sum may stand in it, or it is longer than a line may be
 abbrev pub shows_more : List ℕ → Bool
-shows_more text = begins_sum text || nat_lt longest_line (length text)
+shows_more text = has_equals text || nat_lt longest_line (length text)
 
 -- The bytes are so many whole lines, and whether one of them is in no torn batch.
 pub data AreLines : List ℕ → ℕ → Bool → Type 0 where
@@ -40,7 +45,7 @@ IsRestOf known bytes =
     (lines torn : List ℕ) × (behind : ℕ) × (more : Bool) × (bytes ≡ lines ++ torn) × AreLines lines (suc behind) more
     × IsOneLine torn × known behind more (length torn)
 
--- No more than a torn batch is: no line of it begins as a sum does, none is longer than a line may be, also not the torn one,
+-- No more than a torn batch is: no whole line of it has an equals sign, none is longer than a line may be, also not the torn one,
 -- and at most 1,024 stand behind the first.
 abbrev pub IsTornBatch : ℕ → Bool → ℕ → Type 0
 IsTornBatch behind more torn = (more ≡ false) × (behind ≤ most_torn) × (torn ≤ longest_line)

@@ -6,10 +6,10 @@ ghost use Rattle.warp_record.specs.Lines.{IsOneLine};
 ghost use Rattle.warp_record.specs.declared.record.Record.{Record};
 ghost use Rattle.sha2.specs.Hashers.{Holds256};
 ghost use Rattle.warp_journal.specs.Journal.{IsWrong, line_of};
-ghost use Rattle.warp_journal.specs.Reading.{IsRead, IsRepaired, IsRest, damage_of, most_torn, shows_more};
+ghost use Rattle.warp_journal.specs.Reading.{IsRead, IsRepaired, IsRest, damage_of, has_equals, most_torn, shows_more};
 ghost use Rattle.warp_journal.specs.Pieces.{IsAt, IsKept, IsSaid, IsWhole, Reads, most_held};
 
-use crate::journal::{Fault, Journal, fault_of, is_sum};
+use crate::journal::{Fault, Journal, fault_of};
 use memchr::memchr;
 use std::alloc::{AllocError, Global};
 use warp_record::{MAX_LINE, Record};
@@ -28,11 +28,11 @@ pub enum Ending {
     Whole,
     /// A torn line: at most 128 bytes, which have no line feed.
     Torn,
-    /// A line that does not go on with the journal, for this reason, and no more than a torn batch: no line there begins
-    /// as a sum does, none has more than 128 bytes, also not a torn last one, and at most 1,024 stand behind that one. A
+    /// A line that does not go on with the journal, for this reason, and no more than a torn batch: no whole line there
+    /// has an equals sign, none has more than 128 bytes, also not a torn last one, and at most 1,024 stand behind that one. A
     /// loss of power may leave that.
     Cut(Fault),
-    /// Such a line, and more than a torn batch: a line there begins as a sum does, one has more than 128 bytes, or more of
+    /// Such a line, and more than a torn batch: a whole line there has an equals sign, one has more than 128 bytes, or more of
     /// them stand behind. Or more than 128 bytes alone that have no line feed, for this reason.
     Damaged(Fault),
 }
@@ -92,12 +92,22 @@ fn next_line(bytes: &[u8]) -> Option<&[u8]>
     Some(&bytes[..end])
 }
 
-/// Whether no torn batch has this line, of which these are the first 129 bytes: it begins as a sum does, or is longer than
+/// Whether this text has an equals sign, as each sum has and no record.
+fn shows_sum(text: &[u8]) -> bool
+    ensures { result ≡ has_equals text.now }
+{
+    match memchr(b'=', text) {
+        Some(_) => true,
+        None => false,
+    }
+}
+
+/// Whether no torn batch has this line, of which these are the first 129 bytes: a sum may stand in it, or it is longer than
 /// a line may be.
 fn is_beyond(text: &[u8]) -> bool
     ensures { result ≡ shows_more text.now }
 {
-    is_sum(text) || text.len() > MAX_LINE
+    shows_sum(text) || text.len() > MAX_LINE
 }
 
 /// What came of the lines behind those that are kept.

@@ -12,14 +12,16 @@ use std::io::{self, Read};
 /// What is said of what is no file.
 pub(crate) const NO_FILE: &str = "it is no regular file";
 
-/// Whether neither a file nor a folder stands at this path, but what may have no end or be waited for without end, as a
-/// pipe or a device. The descriptors that the process was given are taken for files.
+/// Whether neither a file nor a folder stands at this path, but what may have no end or be waited for without end: a pipe,
+/// a device, or what the system itself makes under `/proc`, which tells no length. The descriptors that the process was
+/// given are taken for files.
 pub(crate) fn is_no_file<F: Files>(files: &F, path: &str) -> bool {
     if path == "/dev/stdin" || path.starts_with("/dev/fd/") {
         return false;
     }
     match fs::metadata(files, path) {
-        Ok(about) => !about.is_file() && !about.is_dir(),
+        Ok(about) if about.is_file() => about.len() == 0 && path.starts_with("/proc/"),
+        Ok(about) => !about.is_dir(),
         Err(_) => false,
     }
 }

@@ -9,12 +9,14 @@ use crate::client_tokens::is_silent;
 use crate::file_bytes::{NO_FILE, is_no_file};
 use crate::origins::{is_address, is_origin};
 use crate::outcome::{Outcome, TokenFile};
-use crate::telling::{tell_file, tell_line, tell_of_file, tell_peers, tell_shown, tell_word};
+use crate::telling::{
+    tell_file, tell_line, tell_of_file, tell_owner, tell_peers, tell_shown, tell_word,
+};
 use std::alloc::{AllocError, Global};
 use std::fs::{self, Files, OpenFile};
 use std::io::{Eprint, Read};
 use std::net::{Ipv4Addr, SocketAddr};
-use std::os::unix::fs::PermissionsExt;
+use std::os::unix::fs::{MetadataExt, PermissionsExt};
 use warp_host::{DEFAULT_CLIENTS, MOST_PEERS, PeerAt, SyncWhen, may_listen};
 use warp_hub::PeerToken;
 use warp_words::HostJob;
@@ -33,6 +35,9 @@ pub(crate) const LONGEST_SAID: usize = 122;
 
 /// The bits of a file's mode that let the group or others read or write it.
 const OTHERS_MAY: u32 = 0o066;
+
+/// The user who may read and write all files anyway.
+const ROOT: u32 = 0;
 
 /// A file of tokens.
 #[derive(Drop)]
@@ -78,8 +83,8 @@ fn address_of<X: Eprint>(rt: &X, word: Option<&str>) -> Result<SocketAddr, Outco
     }
 }
 
-/// All bytes of a file of tokens, which others may neither read nor write. What is no file is not opened, so that the
-/// start waits for nobody.
+/// All bytes of a file of tokens, which others may neither read nor write, and which is this user's or root's. What is no
+/// file is not opened, so that the start waits for nobody.
 fn token_bytes<X: Files + Eprint>(
     rt: &X,
     alloc: Global,
@@ -101,6 +106,20 @@ fn token_bytes<X: Files + Eprint>(
     }
 }
 
+/// Whether others may read or write a file of tokens of this name, mode and owner: any but this user and root. That is
+/// told.
+fn is_shown<X: Eprint>(rt: &X, name: &str, mode: u32, owner: u32) -> bool {
+    if mode & OTHERS_MAY != 0 {
+        tell_shown(rt, name, mode);
+        return true;
+    }
+    if owner != ROOT && owner != libc::geteuid() {
+        tell_owner(rt, name, owner);
+        return true;
+    }
+    false
+}
+
 /// All bytes of this file of tokens, which has this name.
 fn file_bytes<X: Eprint, O: OpenFile + Read + Drop>(
     rt: &X,
@@ -111,15 +130,14 @@ fn file_bytes<X: Eprint, O: OpenFile + Read + Drop>(
 ) -> Result<Vec<u8>, Outcome>
     ensures { IfErr result KeepsFromHosting }
 {
-    let mode = match file.metadata() {
-        Ok(about) => about.permissions().mode(),
+    let about = match file.metadata() {
+        Ok(about) => about,
         Err(error) => {
             tell_file(rt, name, &error);
             return Err(Outcome::NoTokens(which));
         }
     };
-    if mode & OTHERS_MAY != 0 {
-        tell_shown(rt, name, mode);
+    if is_shown(rt, name, about.permissions().mode(), about.uid()) {
         return Err(Outcome::ShownTokens(which));
     }
     let mut bytes = Vec::new(alloc);

@@ -7,7 +7,7 @@ use crate::print;
 use crate::service::Host;
 use crate::streams::Streams;
 use std::alloc::{AllocError, Global};
-use std::fs::{File, Files, OpenOptions};
+use std::fs::{self, File, Files, OpenOptions};
 use std::io::{Read, Seek};
 use warp_host::{
     FileFault, OpenFault, keep_aside, lock_file, lock_journal, refuse_special_file,
@@ -247,6 +247,8 @@ fn checked<P: Host>(rt: &P, alloc: Global, path: &str) -> Result<Account, FileFa
 /// Keeps what is whole in front of the journal at this path, moves the rest to a file beside it, and tells so.
 fn repaired<P: Host>(rt: &P, alloc: Global, path: &str) -> Result<Account, FileFault> {
     refuse_special_file(rt, path)?;
+    // Where none is there, no lock's file is made beside it.
+    let _about = fs::metadata(rt, path)?;
     let _lock = lock_journal(rt, alloc, path)?;
     let file = OpenOptions::new().read(true).write(true).open(rt, path)?;
     lock_file(&file)?;

@@ -20,6 +20,13 @@ pub(crate) fn tell_shown<X: Eprint>(rt: &X, path: &str, mode: u32) {
     let _ = eprintln!(rt; "{path}: others may read or write it (mode {bits:o}; chmod 600 {path})");
 }
 
+/// Tells that the file at this path is of this user, who is neither root nor the one of this process.
+pub(crate) fn tell_owner<X: Eprint>(rt: &X, path: &str, owner: u32) {
+    let _ = eprintln!(rt;
+        "{path}: user {owner}, whose it is, may read or write it (chown it to the host's user)"
+    );
+}
+
 /// Tells what is wrong with this line of the file at this path, from 1.
 pub(crate) fn tell_line<X: Eprint>(rt: &X, path: &str, line: u64, why: &str) {
     let _ = eprintln!(rt; "{path}: line {line}: {why}");
