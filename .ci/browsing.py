@@ -17,6 +17,7 @@ SYSTEM = "/usr/bin/python3"
 
 try:
     from selenium import webdriver
+    from selenium.common.exceptions import WebDriverException
     from selenium.webdriver.chrome.options import Options
     from selenium.webdriver.chrome.service import Service
     from selenium.webdriver.common.by import By
@@ -25,6 +26,9 @@ except ImportError:
     if os.path.realpath(sys.executable) != os.path.realpath(SYSTEM) and os.path.exists(SYSTEM):
         os.execv(SYSTEM, [SYSTEM, *sys.argv])
     webdriver = By = Keys = None
+
+    class WebDriverException(Exception):
+        """What is not there is never raised."""
 
 from loopback import Wrong, holds, same  # noqa: E402
 
@@ -87,6 +91,12 @@ class Browser:
     def run(self, code, *words):
         """What this code of a function's body returns in the page."""
         return self.driver.execute_script(code, *words)
+
+    def called(self, name, *words):
+        """What a function of the page gives, which is a promise."""
+        code = "const [done, name, ...words] = [arguments[arguments.length - 1], ...Array.from(arguments).slice(0, -1)];" \
+               "window[name](...words).then(done, error => done({fault: String(error)}))"
+        return self.driver.execute_async_script(code, name, *words)
 
     def text(self, name):
         return self.run("return document.getElementById(arguments[0]).textContent", name)

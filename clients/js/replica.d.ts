@@ -1,5 +1,6 @@
 import type { Client, EventRecord, GivenValue, Tag, Taken, Value } from "./warpd.js"
 import type { Engine } from "./engine.js"
+import type { Glide, Smooth } from "./smooth.js"
 
 /** An input that another origin ticks. */
 export interface ClockOptions {
@@ -12,6 +13,8 @@ export interface ClockOptions {
   ahead?: number
   /** How many ticks before they are due. */
   lead?: number
+  /** The last tick that there is, if one is. */
+  last?: number
 }
 
 export interface ReplicaOptions {
@@ -22,6 +25,8 @@ export interface ReplicaOptions {
   /** Whose events are sent, where any are. */
   origin?: number | null
   clock?: ClockOptions | null
+  /** The variables that are shown evenly, by name; or who is told what they are. Where there is a clock, one tick more is executed ahead. */
+  smooth?: Record<string, Glide> | Pick<Smooth, "names" | "tick" | "turn" | "correct" | "at"> | null
   /** What time it is, in milliseconds. */
   now?: () => number
 }
@@ -37,7 +42,25 @@ export interface FinalOutput extends Tag {
   value: Value
 }
 
+/** What is shown went back. */
+export interface WentBack {
+  /** The last tag that was executed. */
+  from: Tag
+  /** The first that is executed anew. */
+  to: Tag
+  /** How many tags of records lie between, both counted. */
+  again: number
+}
+
 export interface ReplicaStats {
+  /** How often what is shown went back, once it was `ready`. */
+  rollbacks: number
+  /** How many tags of records the last one executed again. */
+  depth: number
+  /** The most that one did. */
+  deepest: number
+  /** How many all did. */
+  again: number
   /** How often what is shown was made anew. */
   rebuilt: number
   /** How many records came. */
@@ -46,6 +69,8 @@ export interface ReplicaStats {
   refused: number
   /** How many milliseconds the last own event that was taken took to be answered. */
   answered: number | null
+  /** How many milliseconds the last `ping()` took. */
+  roundTrip: number | null
 }
 
 /** The program that was handed in is not the one that the host has, whose fingerprint is `host`. */
@@ -69,19 +94,30 @@ export class Replica {
   onrefused: ((record: EventRecord, error: Error) => void) | null
   /** Called when something has changed that is shown. */
   onchange: (() => void) | null
+  /** Called when what is shown goes back. */
+  onrollback: ((went: WentBack) => void) | null
+  /** The numbers that were named as `smooth`, as the last `frame()` has them for its picture. */
+  readonly smooth: Record<string, number>
   /** Why it follows the host no more, as want of memory; `onerror` is called with it. */
   readonly error: Error | null
   onerror: ((error: Error) => void) | null
-  /** One's own event, here at once and to the host: at the next tick of the clock, or at `time`. */
+  /**
+   * One's own event, here at once and to the host: at the next tick of the clock, or at `time`. Where numbers glide, that is the tick
+   * to which they go.
+   */
   act(input: string | number, value: GivenValue, when?: { time?: number }): Acted
-  /** Announces that no event of one's own comes any more before this tag, the next tick where none is given. */
+  /** Announces that no event of one's own comes any more before this tag; where none is given, before the tick at which one acts. */
   announce(tag?: Partial<Tag>): Promise<Taken>
-  /** Executes the ticks that are due, and gives how many: to be called before each picture. */
-  frame(): number
+  /** Executes the ticks that are due, and gives how many: to be called before each picture, with its time where that is known. */
+  frame(now?: number): number
+  /** Asks the host for little, and gives how many milliseconds it took to be answered. */
+  ping(): Promise<number>
   /** The last tick of the clock that is shown, and how far it is past the last that came. */
   readonly tick: { time: number; ahead: number } | null
   /** The variables by name, as they are shown. */
   readonly vars: Record<string, Value>
+  /** The outputs of what is shown, from this number on: what is not final may change. */
+  outputs(first?: number): FinalOutput[]
   /** The variables by name over the host's log alone. */
   readonly confirmed: Record<string, Value>
   /** The tag before which all is final. */

@@ -18,9 +18,10 @@
 // engine is made a copy of the first anew.
 
 import { NoMemory } from "./engine.js"
-import { Announcer, Refused } from "./warpd.js"
+import { Executed, placeOf, tagOf } from "./executed.js"
+import { Smooth } from "./smooth.js"
+import { Announcer, Refused, replyOf } from "./warpd.js"
 
-const MOST_MICRO = 255
 // The quickest of so many late ticks tells when the host's clock began.
 const SAMPLES = 300
 // Lines are handed to the engine so many bytes at a time, or a line more.
@@ -29,6 +30,14 @@ const PIECE = 60_000
 const lineOf = ({ kind, origin, time, micro, input, value, events, withdrawn }) => {
   const behind = { event: ` ${input} ${value}`, withdraw: "", announce: ` ${events} ${withdrawn}` }[kind]
   return `${kind} ${origin} ${time} ${micro}${behind}`
+}
+
+const isExecuted = ({ kind }) => kind !== "announce"
+
+/** The first tag of those records that were taken, as their replies tell, and are executed; Infinity where there is none. */
+function firstTaken(records, replies) {
+  const places = records.map((record, at) => (isExecuted(record) && replies[at].startsWith("taken") ? placeOf(record) : Infinity))
+  return places.reduce((one, other) => Math.min(one, other), Infinity)
 }
 
 /** The program that was handed in is not the one that the host has, whose fingerprint is `host`. */
@@ -47,14 +56,17 @@ class Clock {
   #input
   #value
 
-  constructor({ input, value = 1, hertz = 60, ahead = hertz, lead = 0 }, names, now) {
+  constructor({ input, value = 1, hertz = 60, ahead = hertz, lead = 0, last = Infinity }, names, now, isSmooth) {
     this.#input = names.input(input)
     this.#origin = names.owner(this.#input)
     this.#value = value
     this.hertz = hertz
     this.ahead = ahead
-    this.lead = lead
+    // A picture between two ticks wants the later one before it is due.
+    this.lead = lead + isSmooth
+    this.last = last
     this.now = now
+    this.isSmooth = isSmooth
     /** The last tick that was executed here, and the last that came. */
     this.ticked = 0
     this.confirmed = 0
@@ -68,36 +80,45 @@ class Clock {
     return `event ${this.#origin} ${time} 0 ${this.#input} ${this.#value}`
   }
 
-  /** Takes a record of the log; whether it shows that a tick was passed over which was executed here. */
+  /** Takes a record of the log; the first tick that was executed here and is passed over by it, or is another; else Infinity. */
   heard({ kind, origin, time, micro, input, value }) {
-    if (kind !== "event" || origin !== this.#origin || input !== this.#input) return false
+    if (kind !== "event" || origin !== this.#origin || input !== this.#input) return Infinity
     this.#samples.push(this.now() - (time * 1_000) / this.hertz)
     if (this.#samples.length > SAMPLES) this.#samples.shift()
     this.offset = Math.min(...this.#samples)
     this.confirmed = Math.max(this.confirmed, time)
     this.ticked = Math.max(this.ticked, time)
-    const isPassed = this.expected.length > 0 && this.expected[0] < time
-    const isOther = this.expected[0] === time && (micro !== 0 || BigInt(value) !== BigInt(this.#value))
-    if (this.expected[0] === time) this.expected.shift()
-    if (isPassed) this.expected = this.expected.filter(it => it > time)
-    return isPassed || isOther
+    const [first = Infinity] = this.expected
+    const isOther = first === time && (micro !== 0 || BigInt(value) !== BigInt(this.#value))
+    if (first === time) this.expected.shift()
+    if (first < time) this.expected = this.expected.filter(it => it > time)
+    return first < time || isOther ? first : Infinity
   }
 
-  /** The lines of the ticks that are due and were not executed, at most `ahead` past the last that came. */
-  due() {
-    if (!Number.isFinite(this.offset)) return []
-    const due = Math.floor(((this.now() - this.offset) * this.hertz) / 1_000) + this.lead
-    const end = Math.min(due, this.confirmed + this.ahead)
-    const lines = []
-    while (this.ticked < end) lines.push(this.next())
-    return lines
+  /** How many ticks are due that were not executed, at most `ahead` past the last that came. */
+  due(now) {
+    if (!Number.isFinite(this.offset)) return 0
+    const due = Math.floor(((now - this.offset) * this.hertz) / 1_000) + this.lead
+    return Math.max(0, Math.min(due, this.confirmed + this.ahead, this.last) - this.ticked)
   }
 
-  /** The line of the tick behind the last one. */
-  next() {
-    this.ticked += 1
-    this.expected.push(this.ticked)
-    return this.line(this.ticked)
+  /** When a tick is due. */
+  dueAt(tick) {
+    return this.offset + ((tick - this.lead) * 1_000) / this.hertz
+  }
+
+  /** The lines of so many ticks behind the last one, which are executed now. */
+  next(count) {
+    return Array.from({ length: count }, () => {
+      this.ticked += 1
+      this.expected.push(this.ticked)
+      return this.line(this.ticked)
+    })
+  }
+
+  /** The tick at which one acts: the next one, or the one to which a picture goes over. */
+  get acting() {
+    return this.isSmooth && this.ticked ? this.ticked : this.ticked + 1
   }
 }
 
@@ -119,9 +140,17 @@ export class Replica {
   /** One's own events that the host has not answered, by their line; and the tags that were used, by their place. */
   #own = new Map()
   #used = new Set()
+  /** The tags that the host's log has. */
+  #executed = new Executed()
+  #isReady = false
+  #isClosed = false
   #finals = 0
   #values = null
   #past = null
+  /** The numbers that glide, the tick that they were told last, and the time of the last picture, which shows what is corrected. */
+  #smooth = null
+  #told = null
+  #framed = null
 
   /** Called with each output that is final, in order: `{ index, time, micro, output, value }`. */
   onfinal = null
@@ -129,20 +158,30 @@ export class Replica {
   onrefused = null
   /** Called when something has changed that is shown. */
   onchange = null
+  /** Called when what is shown goes back: `{ from, to, again }`, from the last tag that was executed to the first that is executed
+   * anew, and how many tags of records lie between. */
+  onrollback = null
   /** Why it follows the host no more, as want of memory; `onerror` is called with it. */
   error = null
   onerror = null
-  /** How often what is shown was made anew, how many records came, how many own events were refused, and how many milliseconds
-   * the last one that was taken took to be answered. */
-  stats = { rebuilt: 0, records: 0, refused: 0, answered: null }
+  /** The numbers that were named as `smooth`, by name, as the last `frame()` has them for its picture. */
+  smooth = {}
+  /**
+   * `rollbacks`: how often what is shown went back once it was `ready`; of tags of records `depth`: how many the last one executed
+   * again, `deepest`: the most, `again`: all; `rebuilt`: how often what is shown was made anew; `records`: how many came;
+   * `refused`: how many own events were; `answered`: how many milliseconds the last one that was taken took to be answered, and
+   * `roundTrip`: how many the last `ping()`.
+   */
+  stats = { rollbacks: 0, depth: 0, deepest: 0, again: 0, rebuilt: 0, records: 0, refused: 0, answered: null, roundTrip: null }
 
   /**
    * @param client a `Client` of a host of the program
    * @param options `engine`: an `Engine`, of whose module two more are made; `program`: the text of the program's file; `origin`:
    *   whose events are sent, where any are; `clock`: the input that another origin ticks, as `{ input, value, hertz, ahead,
-   *   lead }`, where there is one
+   *   lead, last }`, where there is one; `smooth`: the variables that are shown evenly, as `{ "ball.x": { over, jump } }`, where any
+   *   are
    */
-  constructor(client, { engine, program, origin = null, clock = null, now = () => performance.now() }) {
+  constructor(client, { engine, program, origin = null, clock = null, smooth = null, now = () => performance.now() }) {
     this.client = client
     this.origin = origin
     this.now = now
@@ -153,6 +192,7 @@ export class Replica {
     this.#fork()
     /** Resolved once it has the log that the host had when it was asked; rejected with `OtherProgram` where that has another program. */
     this.#clockOptions = clock
+    if (smooth) this.#smooth = typeof smooth.tick === "function" ? smooth : new Smooth(smooth)
     this.ready = this.#begin()
     this.ready.catch(() => {})
   }
@@ -162,6 +202,7 @@ export class Replica {
     const { fingerprint } = await this.client.program()
     if (fingerprint !== this.#engine.fingerprint(this.#program)) throw new OtherProgram(fingerprint)
     this.#names = this.client.names
+    for (const name of this.#smooth?.names ?? []) this.#names.var(name)
     this.#setClock()
     if (this.origin !== null) this.#announcer = new Announcer(this.client, this.origin)
     this.client.onReopened(() => this.#reopened().catch(() => {}))
@@ -173,12 +214,14 @@ export class Replica {
       await new Promise(resolve => setTimeout(resolve, 5))
     }
     this.#take()
+    if (this.#smooth) this.#glide(false)
+    this.#isReady = true
     if (this.#announcer) await this.#announcer.began
     return this
   }
 
   #setClock() {
-    this.#clock = this.#clockOptions && new Clock(this.#clockOptions, this.#names, this.now)
+    this.#clock = this.#clockOptions && new Clock(this.#clockOptions, this.#names, this.now, this.#smooth !== null)
   }
 
   #follow(from) {
@@ -194,6 +237,7 @@ export class Replica {
     if (entry && lineOf(entry.record) === this.#log[place - 1]) return
     this.#log = []
     this.#arrived = []
+    this.#executed = new Executed()
     this.#setClock()
     this.#truth.drop()
     this.#truth = this.#engine.open(this.#program)
@@ -219,7 +263,7 @@ export class Replica {
 
   #take() {
     this.#isWaiting = false
-    if (!this.#arrived.length || this.error) return
+    if (!this.#arrived.length || this.error || this.#isClosed) return
     try {
       this.#enter(this.#arrived.splice(0))
     } catch (error) {
@@ -233,27 +277,58 @@ export class Replica {
   /** Enters records of the host's log. */
   #enter(records) {
     const lines = records.map(lineOf)
-    let isAnew = false
-    for (const record of records) {
-      if (this.#clock?.heard(record)) isAnew = true
-      if (record.origin === this.origin && record.kind === "event") this.#used.add(this.#placeOf(record))
-    }
-    this.#log.push(...lines)
+    const newest = this.#newest
+    let passed = Infinity
+    records.forEach((record, at) => {
+      if (this.#clock) passed = Math.min(passed, this.#clock.heard(record))
+      this.#log.push(lines[at])
+      if (record.origin !== this.origin || record.kind !== "event") return
+      this.#used.add(placeOf(record))
+      this.#own.delete(lines[at])
+    })
     this.stats.records += lines.length
     this.#give(this.#truth, lines)
-    if (isAnew) this.#rebuild()
-    else this.#give(this.#shown, lines)
+    const late = firstTaken(records, this.#give(this.#shown, lines))
+    this.#executed.add(records.filter(isExecuted).map(placeOf))
+    if (passed < Infinity) this.#rebuild(Math.min(late, placeOf({ time: passed, micro: 0 })), newest)
+    else this.#tellRollback(late, newest)
   }
 
+  /** The replies to lines. */
   #give(tab, lines) {
+    const replies = []
     let text = ""
-    for (const line of lines) {
-      text += `${line}\n`
-      if (text.length < PIECE) continue
-      tab.answer(text)
+    const ask = () => {
+      for (const reply of tab.answer(text).split("\n")) if (reply) replies.push(reply)
       text = ""
     }
-    if (text) tab.answer(text)
+    for (const line of lines) {
+      text += `${line}\n`
+      if (text.length >= PIECE) ask()
+    }
+    if (text) ask()
+    return replies
+  }
+
+  /** The tags at which something is executed that the host's log has not: one's own events, and the ticks that are expected. */
+  get #waiting() {
+    const ticks = this.#clock?.expected ?? []
+    return [...this.#own.values(), ...ticks.map(time => ({ time, micro: 0 }))].map(placeOf)
+  }
+
+  /** The last tag that is shown. */
+  get #newest() {
+    return this.#waiting.reduce((one, other) => Math.max(one, other), this.#executed.last)
+  }
+
+  /** Tells that what is shown went back from one tag to another, where it did. */
+  #tellRollback(to, from) {
+    if (!this.#isReady || to > from) return
+    const waiting = this.#waiting.filter(it => it >= to && !this.#executed.has(it))
+    const depth = this.#executed.from(to) + new Set(waiting).size
+    const { stats } = this
+    Object.assign(stats, { rollbacks: stats.rollbacks + 1, depth, deepest: Math.max(stats.deepest, depth), again: stats.again + depth })
+    this.onrollback?.({ from: tagOf(from), to: tagOf(to), again: depth })
   }
 
   /** What is shown, as the host's log alone has it. */
@@ -262,18 +337,33 @@ export class Replica {
     this.#shown = this.#truth.within(this.#copy)
   }
 
-  /** What is shown, anew: the host's log, one's own events that wait, and the ticks that are expected. */
-  #rebuild() {
+  /**
+   * What is shown, anew: the host's log, one's own events that wait, and the ticks that are expected. So it goes back from one tag
+   * to another, where that is said.
+   */
+  #rebuild(to = Infinity, from = this.#newest) {
     this.stats.rebuilt += 1
     this.#fork()
     const ticks = (this.#clock?.expected ?? []).map(it => this.#clock.line(it))
     this.#give(this.#shown, [...this.#own.keys(), ...ticks])
+    this.#tellRollback(to, from)
     this.#changed()
   }
 
-  #changed() {
+  #changed(isOwn = false) {
     this.#values = null
+    if (this.#smooth) this.#glide(isOwn)
     this.onchange?.()
+  }
+
+  /** Tells the numbers that glide what is shown now: behind a tick, by one's own event, or as it is corrected. */
+  #glide(isOwn) {
+    const values = this.#shownVars
+    const tick = this.#clock?.ticked || null
+    if (tick !== null && tick !== this.#told) this.#smooth.tick(values, this.#clock.dueAt(tick), 1_000 / this.#clock.hertz)
+    else if (isOwn) this.#smooth.turn(values)
+    else this.#smooth.correct(values, this.#framed ?? this.now())
+    this.#told = tick
   }
 
   #tellFinals() {
@@ -283,65 +373,78 @@ export class Replica {
     }
   }
 
-  #placeOf({ time, micro }) {
-    return (MOST_MICRO + 1) * time + micro
-  }
-
   /** The first tag at or behind this time that no event of one's own has. */
   #freeTag(time) {
-    for (let place = this.#placeOf({ time, micro: 0 }); ; place += 1) {
-      if (!this.#used.has(place)) return { time: Math.floor(place / (MOST_MICRO + 1)), micro: place % (MOST_MICRO + 1) }
-    }
+    let place = placeOf({ time, micro: 0 })
+    while (this.#used.has(place)) place += 1
+    return tagOf(place)
   }
 
   /**
-   * One's own event, here at once and to the host: at the next tick of the clock, or at `time`. Where that tag has an event of
-   * one's own already, it takes the next free microstep. It gives its record; `answered` of it is resolved with what the host
-   * answered, or with null where that refused it.
+   * One's own event, here at once and to the host: at the next tick of the clock, or at `time`. Where numbers glide, that is the
+   * tick to which they go. Where its tag has an event of one's own already, it takes the next free microstep. It gives its record;
+   * `answered` of it is resolved with what the host answered, or with null where that refused it.
    */
   act(input, value, { time } = {}) {
     if (!this.#announcer) throw new TypeError("who acts says whose events these are, as { origin }")
-    const at = time ?? (this.#clock ? this.#clock.ticked + 1 : undefined)
+    const at = time ?? this.#clock?.acting
     if (at === undefined) throw new TypeError("there is no clock: say when, as { time }")
     const record = { kind: "event", origin: this.origin, ...this.#freeTag(at), input: this.#names.input(input), value: BigInt(value) }
     const line = lineOf(record)
-    this.#used.add(this.#placeOf(record))
+    this.#used.add(placeOf(record))
     this.#own.set(line, record)
     this.#give(this.#shown, [line])
-    this.#changed()
+    this.#changed(true)
     return { ...record, answered: this.#send(line, record) }
   }
 
   async #send(line, record) {
     const began = this.now()
     try {
+      // It waits until the host's log brings it, which may be later.
       const taken = await this.#announcer.event(record.input, record)
-      this.#own.delete(line)
       this.stats.answered = this.now() - began
       return taken
     } catch (error) {
+      const newest = this.#newest
       this.#own.delete(line)
       if (error instanceof Refused || error instanceof RangeError) this.stats.refused += 1
-      this.#used.delete(this.#placeOf(record))
-      this.#rebuild()
+      this.#used.delete(placeOf(record))
+      this.#rebuild(placeOf(record), newest)
       this.onrefused?.(record, error)
       return null
     }
   }
 
-  /** Announces that no event of one's own comes any more before this tag, the next tick where none is given. */
-  async announce({ time = (this.#clock?.ticked ?? 0) + 1, micro = 0 } = {}) {
+  /** Announces that no event of one's own comes any more before this tag; where none is given, before the tick at which one acts. */
+  async announce({ time = this.#clock?.acting ?? 1, micro = 0 } = {}) {
     return this.#announcer.announce({ time, micro })
   }
 
-  /** Executes the ticks that are due, and gives how many: to be called before each picture. */
-  frame() {
+  /**
+   * Executes the ticks that are due, and gives how many: to be called before each picture, with its time where that is known, which
+   * is that of `performance.now()`.
+   */
+  frame(now = this.now()) {
     this.#take()
-    const lines = this.#clock?.due() ?? []
-    if (!lines.length) return 0
-    this.#give(this.#shown, lines)
-    this.#changed()
-    return lines.length
+    const due = this.#clock?.due(now) ?? 0
+    // What glides goes from the last tick but one to the last.
+    const parts = this.#smooth && due > 1 ? [due - 1, 1] : [due]
+    for (const count of due ? parts : []) {
+      this.#give(this.#shown, this.#clock.next(count))
+      this.#changed()
+    }
+    this.#framed = now
+    if (this.#smooth) this.smooth = this.#smooth.at(now)
+    return due
+  }
+
+  /** Asks the host for little, and gives how many milliseconds it took to be answered. */
+  async ping() {
+    const began = this.now()
+    await this.client.horizon()
+    this.stats.roundTrip = this.now() - began
+    return this.stats.roundTrip
   }
 
   /** The last tick of the clock that is shown, and how far it is past the last that came; null where there is no clock. */
@@ -352,8 +455,24 @@ export class Replica {
   /** The variables by name, as they are shown: BigInt. */
   get vars() {
     this.#take()
+    return this.#shownVars
+  }
+
+  get #shownVars() {
     this.#values ??= this.#named(this.#shown.vars())
     return this.#values
+  }
+
+  /** The outputs of what is shown, from this number on, each `{ index, time, micro, output, value }`: what is not final may change. */
+  outputs(first = 0) {
+    this.#take()
+    const [said] = this.#give(this.#shown, ["outputs"])
+    const count = Math.max(0, replyOf(said, "outputs").count - first)
+    const lines = Array.from({ length: count }, (_, at) => `output ${first + at}`)
+    return this.#give(this.#shown, lines).map((it, at) => {
+      const { time, micro, output, value } = replyOf(it, lines[at])
+      return { index: first + at, time, micro, output: this.#names.outputs[output] ?? output, value }
+    })
   }
 
   /** The variables by name over the host's log alone. */
@@ -394,9 +513,9 @@ export class Replica {
     return this.#past.vars
   }
 
-  /** Follows the host no more. The client stays open. */
+  /** Follows the host no more: what it tells stays as it is. The client stays open. */
   async close() {
-    this.#truth.drop()
+    this.#isClosed = true
     await this.#watch?.stop().catch(() => {})
   }
 }

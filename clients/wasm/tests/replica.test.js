@@ -237,6 +237,102 @@ hosted("ticks that are due are executed before they come, and one that is passed
   assert.deepEqual(replica.vars, await hostVars(clock, 5))
 })
 
+hosted("a clock that ends has no tick behind its last one", async ({ replicaOf, client }) => {
+  let now = 0
+  const options = { input: "clock.tick", hertz: 100, last: 12 }
+  const [replica, clock] = [await replicaOf({ origin: 1, now: () => now, clock: options }), client()]
+  await clock.ready
+  await tickTo(clock, 10, 10)
+  await until(() => replica.records === 1)
+  now = 500
+  assert.deepEqual([replica.frame(), replica.tick.time, replica.frame()], [2, 12, 0])
+})
+
+/** A player whose numbers glide, at 100 ticks a second; the first that came is tick 1, at 0. */
+async function gliding({ replicaOf, client }, smooth) {
+  const at = { now: 0 }
+  const replica = await replicaOf({ origin: 1, now: () => at.now, clock: { input: "clock.tick", hertz: 100 }, smooth })
+  const clock = client()
+  await clock.ready
+  await tickTo(clock, 1, 1)
+  await until(() => replica.records === 1)
+  const shown = (now, name) => {
+    at.now = now
+    replica.frame(now)
+    return replica.smooth[name]
+  }
+  return { replica, clock, shown: Object.assign(shown, { clock: at }) }
+}
+
+hosted("between two ticks numbers go evenly, with the tick that comes next executed already", async given => {
+  const { replica, shown } = await gliding(given, { "ball.x": { jump: 2 } })
+  // The ball is at 13 behind tick 1, which came at 0, and at 14 behind tick 2.
+  assert.deepEqual([0, 5, 10, 15, 20].map(it => shown(it, "ball.x")), [13, 13.5, 14, 14.5, 15])
+  assert.deepEqual([replica.tick, replica.vars["ball.x"]], [{ time: 4, ahead: 3 }, 16n])
+  // Over many ticks at once it is where it would be: Ben hits it at tick 11, and at tick 34 it is past Ann and jumps to the middle.
+  assert.deepEqual([105, 125, 315, 325, 335].map(it => shown(it, "ball.x")), [22.5, 20.5, 1.5, 12, 11.5])
+})
+
+hosted("one's own move shows in the picture of the same time, at the tick to which that goes", async given => {
+  const { replica, shown } = await gliding(given, { "ann.row": {}, "ball.x": {} })
+  assert.deepEqual([shown(15, "ann.row"), replica.tick.time], [3, 3])
+  const act = replica.act("ann.steer", 1)
+  assert.deepEqual([act.time, shown(15, "ann.row"), shown(20, "ann.row"), shown(25, "ann.row")], [3, 3.5, 4, 4.5])
+  assert.equal((await act.answered).isNew, true)
+  assert.deepEqual([replica.stats.rebuilt, replica.stats.rollbacks], [0, 0])
+  await replica.announce()
+  assert.equal(replica.act("ann.steer", 0).time, replica.tick.time)
+})
+
+hosted("what is corrected is what the last picture showed, however late the next one is", async given => {
+  const { replica, clock, shown } = await gliding(given, { "ben.row": { over: 20 } })
+  await clock.event("ben.steer", { time: 6, value: 1 })
+  await until(() => replica.records === 2)
+  assert.deepEqual([shown(75, "ben.row"), replica.tick.time], [6, 9])
+  // The next picture is of 76, though the correction comes when it is 85 already. Behind tick 9 Ben is at 3 then.
+  shown.clock.now = 85
+  await clock.event("ben.steer", { time: 8, value: -1 })
+  await until(() => replica.records === 3)
+  assert.deepEqual([replica.vars["ben.row"], shown(76, "ben.row"), shown(79, "ben.row")], [3n, 3 + 3 * 0.95, 3 + 3 * 0.8])
+})
+
+hosted("what comes late from another goes over its time, and is told as a going back", async given => {
+  const { replica, clock, shown } = await gliding(given, { "ben.row": { over: 20 } })
+  const told = []
+  replica.onrollback = went => told.push([went.from.time, went.to.time, went.again])
+  assert.equal(shown(55, "ben.row"), 3)
+  await clock.event("ben.steer", { time: 6, value: 1 })
+  await until(() => replica.records === 2)
+  // Behind tick 7 Ben is at 5, and the picture is at 3. The two rows are taken in over 20 milliseconds, while he goes on to 6.
+  assert.equal(replica.vars["ben.row"], 5n)
+  assert.deepEqual([55, 60, 65, 75].map(it => shown(it, "ben.row")), [3, 5 - 1.5, 5.5 - 1, 6])
+  assert.deepEqual(told, [[7, 6, 2]])
+  const { rollbacks, depth, deepest, again } = replica.stats
+  assert.deepEqual({ rollbacks, depth, deepest, again }, { rollbacks: 1, depth: 2, deepest: 2, again: 2 })
+  await clock.event("ben.steer", { time: 3, value: 0 })
+  await until(() => replica.records === 3)
+  assert.deepEqual([told[1], replica.stats.again, replica.stats.deepest], [[9, 3, 7], 9, 7])
+})
+
+hosted("a number that is not there is told in the beginning", async ({ replicaOf }) => {
+  await assert.rejects(replicaOf({ smooth: { "ball.z": {} } }), /no variable is called "ball.z"/)
+})
+
+hosted("outputs that are not final are told too, and a ping tells the round trip", async ({ replicaOf, client }) => {
+  const [replica, clock] = [await replicaOf({ origin: 1 }), client()]
+  await clock.ready
+  assert.deepEqual(replica.outputs(), [])
+  await tickTo(clock, 1, 60)
+  await until(() => replica.records === 60)
+  const { count } = await clock.outputs()
+  const rows = await Promise.all(Array.from({ length: count }, (_, at) => clock.output(at)))
+  const wanted = rows.map(({ time, micro, value }, index) => ({ index, time, micro, output: "ball.point", value }))
+  assert.ok(count > 1)
+  assert.deepEqual([replica.outputs(), replica.outputs(1), replica.outputs(count + 1)], [wanted, wanted.slice(1), []])
+  const took = await replica.ping()
+  assert.ok(took > 0 && replica.stats.roundTrip === took)
+})
+
 hosted("what was so at a time is told of the host's log", async ({ replicaOf, client }) => {
   const [replica, clock] = [await replicaOf({}), client()]
   await clock.ready
@@ -304,6 +400,21 @@ hosted("who is closed before the log has come is told so", async ({ client, repl
   closed.close()
   await assert.rejects(replica.ready)
   assert.equal((await replicaOf({})).records, 2)
+})
+
+hosted("who is closed tells what it had, also where an event was under way", async ({ replicaOf, client, host }) => {
+  const [replica, clock] = [await replicaOf({ origin: 1 }), client()]
+  await clock.ready
+  await tickTo(clock, 1, 3)
+  await until(() => replica.records === 3)
+  const before = replica.confirmed
+  await host.stop()
+  const act = replica.act("ann.steer", 1, { time: 9 })
+  const closed = replica.close()
+  replica.client.close()
+  await closed
+  assert.equal(await act.answered, null)
+  assert.deepEqual([replica.confirmed, replica.vars, replica.records, replica.frame()], [before, before, 3, 0])
 })
 
 hosted("a program that is not the host's is refused, and one that is only laid out in another way is not", async ({ client, engine }) => {

@@ -1,156 +1,118 @@
-// A player's page. It sends the player's moves and the clock's ticks to the player's own host, and shows what follows from all
-// moves that this host has heard of.
+// A player's page. The game runs in it: the player's own moves show at once, and those of the other when they have come, by going
+// back. What both pages show in the end is what the host has.
 
-import { Announcer, Client } from "./warpd.js"
+import { Engine } from "./engine.js"
+import { overlay } from "./overlay.js"
+import { Replica } from "./replica.js"
 import { RULES } from "./rules.js"
+import { Client } from "./warpd.js"
 
 const WIDTH = 25
 const HEIGHT = 7
 const CELL = 24
 const GHOST = 600
 const ANNOUNCE_EVERY = 8
+const TURN_EVERY = 20
 const ASK_EVERY = 1_000
 const NAMES = ["Ann", "Ben"]
 
 const words = new URLSearchParams(location.search)
 const player = words.get("player") === "ben" ? "ben" : "ann"
+const other = player === "ben" ? "ann" : "ben"
+/** @type {typeof RULES[string] | null} */
 const rule = RULES[words.get("rule") ?? ""] ?? null
+// A ball that is put into the middle jumps; what the other's moves change is taken in over 150 milliseconds.
+const smooth = { "ball.x": { over: 150, jump: 2 }, "ball.y": { over: 150, jump: 2 }, [`${player}.row`]: {}, [`${other}.row`]: { over: 150 } }
 /** @type {(id: string) => any} */
 const at = id => document.getElementById(id)
-/** @typedef {{ x: number, y: number }} Ball */
-/** @typedef {import("./warpd.js").Row} Row */
-/**
- * @type {{
- *   newest: number, times: number, shown: Ball | null, ghost: Ball & { until: number } | null,
- *   final: Row[], open: Row[], horizon: number, isAsking: boolean, slid: number,
- * }}
- */
-const seen = { newest: 0, times: 0, shown: null, ghost: null, final: [], open: [], horizon: 0, isAsking: false, slid: -Infinity }
-let wish = 0
+/** @typedef {import("./replica.js").FinalOutput} Point */
+/** @type {{ final: Point[], ghost: { x: number, y: number, until: number } | null, slid: number }} */
+const seen = { final: [], ghost: null, slid: -Infinity }
 /** @type {any} What the server of this page tells of the game. */
 let game
-/** @type {Client} */
-let client
+/** @type {Replica} */
+let replica
 
 /** @type {(path: string, text: string) => Promise<any>} */
 const post = async (path, text) => (await fetch(path, { method: "POST", body: text })).json()
 /** @type {(milliseconds: number) => Promise<unknown>} */
 const sleep = milliseconds => new Promise(resolve => setTimeout(resolve, milliseconds))
 /** @type {(name: string) => number} */
-const number = name => Number(client.vars[name] ?? 0n)
+const number = name => Number(replica.vars[name])
+/** @type {(id: string, text: string) => void} */
+const put = (id, text) => {
+  if (at(id).textContent !== text) at(id).textContent = text
+}
 
-/** Sends ticks and moves as the time comes: of each tick first the player's move, where it is another than before. */
+/** What the player does: moves, and says now and then that no move before comes any more. */
 class Play {
   constructor() {
-    this.moves = new Announcer(client, player === "ann" ? 1 : 2)
-    this.clock = new Announcer(client, 0)
-    this.goes = 0
-  }
-
-  async run() {
-    await Promise.all([this.moves.began, this.clock.began])
-    this.goes = Number((await client.var(`${player}.goes`)).value)
-    let tick = (this.clock.last?.time ?? 0) + 1
-    const began = game.began - game.now + Date.now()
-    for (; tick <= game.ticks; tick += 1) {
-      await sleep(Math.max(0, began + tick * game.tick - Date.now()))
-      await this.play(tick)
-    }
-    await this.announce(game.ticks + 1)
+    const { time } = replica.tick ?? { time: 0 }
+    this.ruled = time
+    this.announced = time
+    this.goes = number(`${player}.goes`)
   }
 
   /**
-   * Both players' pages send the same ticks, so each host has them at once.
-   * @param {number} tick
+   * Goes this way from the tick to which the picture goes, or from `time`.
+   * @param {number} way
+   * @param {{ time?: number }} when
    */
-  async play(tick) {
-    const wanted = rule ? rule(tick, { row: number(`${player}.row`), ball: number("ball.y") }) : wish
-    if (wanted !== this.goes) {
-      this.goes = wanted
-      await this.moves.event(`${player}.steer`, { time: tick, value: wanted })
+  steer(way, when = {}) {
+    if (way === this.goes || this.announced > game.ticks) return
+    this.goes = way
+    replica.act(`${player}.steer`, way, when)
+  }
+
+  /** What the time has brought: a rule goes at each tick, and what is over is announced. */
+  turn() {
+    const { time } = replica.tick ?? { time: 0 }
+    for (; rule && this.ruled < time; this.ruled += 1) {
+      const seenNow = { row: number(`${player}.row`), ball: number("ball.y") }
+      this.steer(rule(this.ruled + 1, seenNow), { time: this.ruled + 1 })
     }
-    await this.clock.event("clock.tick", { time: tick, value: 0 })
-    if (tick % ANNOUNCE_EVERY === 0) await this.announce(tick + 1)
-  }
-
-  /**
-   * Says that no move of this player and no tick comes before this tick any more.
-   * @param {number} time
-   */
-  async announce(time) {
-    await this.moves.announce({ time })
-    await this.clock.announce({ time })
+    const end = time === game.ticks ? time + 1 : time
+    if (end < this.announced + ANNOUNCE_EVERY && end <= game.ticks || this.announced > game.ticks) return
+    this.announced = end
+    replica.announce({ time: end }).catch(error => put("state", error.message))
   }
 }
 
-/** What the host tells. */
-function watch() {
-  client.watch("vars", show)
-  client.watch("log", ({ record }) => hear(record))
-  client.watch("horizon", ({ time }) => {
-    seen.horizon = time
-    ask()
+function tell() {
+  put("score", `Ann ${number("ball.ann")}, Ben ${number("ball.ben")}`)
+  const { time } = replica.horizon
+  put("horizon", `${Math.max(0, time - 1)}`)
+  if (time > game.ticks) put("state", "The game is over, and all of it is final.")
+  put("final", NAMES.map((name, of) => `${name} ${seen.final.filter(it => Number(it.value) === of + 1).length}`).join(", "))
+  const open = replica.outputs(seen.final.length)
+  const lines = [...seen.final, ...open].map((it, place) => {
+    const isFinal = place < seen.final.length
+    return { text: `${NAMES[Number(it.value) - 1]} at ${it.time}, ${isFinal ? "final" : "may change"}`, isFinal }
   })
-  client.watch("released", row => {
-    if (!row.frozen) seen.final[row.index] = row
-    ask()
-  })
+  const told = lines.map(it => it.text).join("\n")
+  if (at("points").dataset.told === told) return
+  at("points").dataset.told = told
+  at("points").replaceChildren(...lines.map(it => Object.assign(document.createElement("li"), {
+    textContent: it.text,
+    className: it.isFinal ? "done" : "open",
+  })))
 }
 
-/**
- * A move that lies before the newest tick came late: the host went back.
- * @param {import("./warpd.js").LogRecord} record
- */
-function hear({ kind, time }) {
-  if (kind === "announce") return
-  if (time < seen.newest) {
-    seen.times += 1
-    at("back").textContent = `${seen.times} times, the last from tick ${seen.newest} back to tick ${time}`
-    at("back").className = "late"
-    seen.ghost = seen.shown && { ...seen.shown, until: performance.now() + GHOST }
-  }
-  seen.newest = Math.max(seen.newest, time)
-  ask()
+/** @param {import("./replica.js").WentBack} went */
+function wentBack({ from, to }) {
+  put("back", `${replica.stats.rollbacks} times, the last from tick ${from.time} back to tick ${to.time}`)
+  at("back").className = "late"
+  seen.ghost = { x: replica.smooth["ball.x"], y: replica.smooth["ball.y"], until: performance.now() + GHOST }
 }
 
-/** Asks for the points that are not final yet, soon and once for all that came until then. */
-function ask() {
-  if (seen.isAsking) return
-  seen.isAsking = true
-  setTimeout(async () => {
-    seen.isAsking = false
-    const { count } = await client.outputs()
-    const first = seen.final.length
-    const rows = await Promise.all(Array.from({ length: Math.max(0, count - first) }, (_, it) => client.output(first + it)))
-    seen.open = rows.flatMap(row => (row && !seen.final.some(it => it.time === row.time) ? [row] : []))
-    tellPoints()
-  }, 100)
-}
-
-function tellPoints() {
-  /** @type {(rows: Row[], name: string) => number} */
-  const count = (rows, name) => rows.filter(row => NAMES[Number(row.value) - 1] === name).length
-  at("final").textContent = NAMES.map(name => `${name} ${count(seen.final, name)}`).join(", ")
-  at("horizon").textContent = `${Math.max(0, seen.horizon - 1)}`
-  /** @type {(row: Row, isFinal: boolean) => HTMLElement} */
-  const item = (row, isFinal) => Object.assign(document.createElement("li"), {
-    textContent: `${NAMES[Number(row.value) - 1]} at ${row.time}${isFinal ? ", final" : ", may change"}`,
-    className: isFinal ? "done" : "open",
-  })
-  at("points").replaceChildren(...seen.final.map(it => item(it, true)), ...seen.open.map(it => item(it, false)))
-  if (seen.horizon > game.ticks) at("state").textContent = "The game is over, and all of it is final."
-}
-
-function show() {
-  at("score").textContent = `Ann ${number("ball.ann")}, Ben ${number("ball.ben")}`
-  at("field").setAttribute("aria-label", `The ball at ${number("ball.x")}, ${number("ball.y")}; Ann at row ${number("ann.row")}, `
-    + `Ben at row ${number("ben.row")}`)
-  seen.shown = { x: number("ball.x"), y: number("ball.y") }
-}
-
-function draw() {
+/** @param {number} time */
+function draw(time) {
   requestAnimationFrame(draw)
+  replica.frame(time)
+  const shown = replica.smooth
   const canvas = at("field")
+  canvas.setAttribute("aria-label", `The ball at ${number("ball.x")}, ${number("ball.y")}; Ann at row ${number("ann.row")}, `
+    + `Ben at row ${number("ben.row")}`)
   const pen = canvas.getContext("2d")
   const ratio = window.devicePixelRatio || 1
   if (canvas.width !== WIDTH * CELL * ratio) Object.assign(canvas, { width: WIDTH * CELL * ratio, height: HEIGHT * CELL * ratio })
@@ -161,76 +123,87 @@ function draw() {
   pen.fillStyle = colour("field")
   pen.fillRect(0, 0, WIDTH, HEIGHT)
   pen.fillStyle = colour("ink")
-  for (const [x, row] of [[0.2, number("ann.row")], [WIDTH - 0.6, number("ben.row")]]) pen.fillRect(x, row - 1, 0.4, 3)
-  /** @type {(ball: Ball) => void} */
-  const circle = ({ x, y }) => {
+  for (const [x, row] of [[0.2, shown["ann.row"]], [WIDTH - 0.6, shown["ben.row"]]]) pen.fillRect(x, row - 1, 0.4, 3)
+  /** @type {(x: number, y: number) => void} */
+  const circle = (x, y) => {
     pen.beginPath()
     pen.arc(x + 0.5, y + 0.5, 0.4, 0, 2 * Math.PI)
   }
-  if (seen.shown) circle(seen.shown)
+  circle(shown["ball.x"], shown["ball.y"])
   pen.fill()
   if (!seen.ghost || seen.ghost.until <= performance.now()) return
   pen.strokeStyle = colour("late")
   pen.lineWidth = 0.12
-  circle(seen.ghost)
+  circle(seen.ghost.x, seen.ghost.y)
   pen.stroke()
 }
 
-function steer() {
+/** @param {Play} play */
+function listen(play) {
   /** @type {Record<string, number>} */
   const keys = { ArrowUp: -1, ArrowDown: 1 }
   addEventListener("keydown", event => {
     if (!(event.key in keys) || event.target === at("delay")) return
     event.preventDefault()
-    wish = keys[event.key]
+    play.steer(keys[event.key])
   })
   addEventListener("keyup", event => {
-    if (keys[event.key] === wish) wish = 0
+    if (keys[event.key] === play.goes) play.steer(0)
   })
   for (const [id, way] of Object.entries({ up: -1, down: 1 })) {
-    at(id).addEventListener("pointerdown", () => (wish = way))
-    for (const over of ["pointerup", "pointerleave", "pointercancel"]) at(id).addEventListener(over, () => (wish = 0))
+    at(id).addEventListener("pointerdown", () => play.steer(way))
+    for (const over of ["pointerup", "pointerleave", "pointercancel"]) at(id).addEventListener(over, () => play.steer(0))
   }
-  at("delay").addEventListener("input", () => {
-    at("told").textContent = at("delay").value
-    seen.slid = performance.now()
-    post("/delay", at("delay").value).catch(() => {})
-  })
 }
 
 /** Both pages show the one delay that there is. What was told before this page's slider was moved last is passed over. */
 async function followDelay() {
+  at("delay").addEventListener("input", () => {
+    put("told", at("delay").value)
+    seen.slid = performance.now()
+    post("/delay", at("delay").value).catch(() => {})
+  })
   for (;;) {
     const asked = performance.now()
-    const { delay } = await (await fetch("/game")).json()
+    const { delay, began } = await (await fetch("/game")).json()
+    if (began && !game.began) put("state", "The game is on.")
+    game.began = began
     if (seen.slid < asked - ASK_EVERY) {
       at("delay").value = delay
-      at("told").textContent = delay
+      put("told", `${delay}`)
     }
-    await sleep(ASK_EVERY)
+    await sleep(game.began ? ASK_EVERY : ASK_EVERY / 5)
   }
 }
 
 async function main() {
-  game = await post("/join", player)
+  game = { ...(await (await fetch("/game")).json()), began: false }
   const name = NAMES[player === "ann" ? 0 : 1]
   document.title = `Pong: ${name}`
-  at("who").textContent = `Pong: you are ${name}, at the ${player === "ann" ? "left" : "right"}`
+  put("who", `Pong: you are ${name}, at the ${player === "ann" ? "left" : "right"}`)
   at("delay").max = game.mostDelay
-  at("replica").href = `http://${game.hosts[player]}/`
-  client = new Client(`ws://${game.hosts[player]}/ws`)
-  steer()
+  at("host").href = `http://${game.host}/`
+  const [bytes, program] = await Promise.all([(await fetch("engine.wasm")).arrayBuffer(), (await fetch("pong.json")).text()])
+  const client = new Client(`ws://${game.link}/ws`)
+  const clock = { input: "clock.tick", hertz: 1_000 / game.tick, last: game.ticks }
+  replica = new Replica(client, { engine: await Engine.load(bytes), program, origin: player === "ann" ? 1 : 2, clock, smooth })
+  replica.onfinal = row => seen.final.push(row)
+  replica.onrollback = wentBack
+  replica.onerror = error => put("state", error.message)
+  await replica.ready
+  const play = new Play()
+  listen(play)
+  requestAnimationFrame(draw)
+  if (words.has("stats")) overlay(replica)
+  put("state", "Waiting for the other player's page.")
+  await post("/join", player)
   followDelay().catch(() => {})
-  await client.ready
-  watch()
-  draw()
-  at("state").textContent = "Waiting for the other player's page."
-  while (game.began === null) {
-    await sleep(200)
-    game = await post("/join", player)
-  }
-  at("state").textContent = "The game is on."
-  await new Play().run()
+  // Where the tab is behind another one, it draws nothing and plays on.
+  setInterval(() => {
+    if (document.hidden) replica.frame()
+    play.turn()
+    tell()
+  }, TURN_EVERY)
 }
 
-main().catch(error => (at("state").textContent = `This page cannot go on: ${error.message}`))
+main().catch(error => put("state", `This page cannot go on: ${error.message}`))
