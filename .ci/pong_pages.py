@@ -216,8 +216,9 @@ def frame_by_frame(browser, program, engine, delay, presses=12):
         browser.is_quiet(("willReadFrequently",))
     frames = [it["frames"] for it in said["found"]]
     holds(len(frames) >= presses / 3, f"the game ended after {len(frames)} of {presses} moves")
-    # A key right at a tick moves what is drawn by less than can be seen.
-    holds(max(frames) <= 2 and frames.count(1) >= 0.75 * len(frames), f"own moves showed after {frames} frames")
+    # A key right at a tick moves what is drawn by less than can be seen, and a busy machine leaves frames out. By way of the host it
+    # would be six frames at least over the longest link.
+    holds(max(frames) <= 3 and frames.count(1) >= 0.5 * len(frames), f"own moves showed after {frames} frames")
     # A row a tick, and a correction over all rows.
     least = [passed * (1 / TICK + ROWS / OVER_MILLISECONDS) + 0.1 for passed, _ in said["moved"]]
     jumps = [(passed, by) for most, (passed, by) in zip(least, said["moved"]) if by > most]
