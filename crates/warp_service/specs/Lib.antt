@@ -1,0 +1,5 @@
+pub mod Lengths
+pub mod Contact
+pub mod Timers
+pub mod News
+pub mod Peers

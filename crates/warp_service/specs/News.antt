@@ -1,0 +1,66 @@
+-- What an operator is told of a peer, and when.
+use Rattle.std.specs.Prelude.{◌≡◌, ◌≢◌, ◌⊎◌, ℕ, ◌+◌, ◌<◌, ◌≤◌, Bool, true, false, min, is_some, Option, Some, None, if◌then◌else◌}
+use Rattle.warp_hub.specs.declared.follow.PeerEvent.{PeerEvent}
+use Rattle.warp_hub.specs.declared.follow.PeerEvent.TheVariants.{Found, Refused}
+use Rattle.warp_service.specs.declared.news.NewsOfPeer.{NewsOfPeer}
+use Rattle.warp_service.specs.declared.news.PeerNews.{PeerNews}
+use Rattle.warp_service.specs.declared.news.PeerNews.TheVariants.{Event, Lost, Unreached}
+use Rattle.warp_service.specs.Contact.{later, never}
+
+-- the least time between two lines of one peer, in microseconds
+abbrev pub news_pause : ℕ
+news_pause = 1000000
+
+-- this came of it: what waited is left out, and counted
+abbrev pub noted : PeerNews → NewsOfPeer → NewsOfPeer
+noted news n = record n { left_out = if is_some n.waits then min never (n.left_out + 1) else n.left_out; waits = Some news }
+
+-- it is not followed, for this reason, which is no news where it was the last one
+abbrev pub WithReason : PeerEvent → NewsOfPeer → NewsOfPeer → Type 0
+WithReason event n n' =
+    (n.reason ≡ Some event → n' ≡ record n { is_loss_noted = true })
+    × (n.reason ≢ Some event → n' ≡ record (noted (Event event) n) { reason = Some event; is_loss_noted = true })
+
+-- whether it says that it is followed now, and whether it says why it is not
+abbrev pub is_start : PeerEvent → Bool
+is_start (Found place host) = true
+is_start event = false
+
+abbrev pub is_reason : PeerEvent → Bool
+is_reason (Found place host) = false
+is_reason (Refused place refusal) = false
+is_reason event = true
+
+-- that it is followed now was noted, if that is what was said
+abbrev pub with_start : Bool → NewsOfPeer → NewsOfPeer
+with_start start n = if start then record n { is_found = true; is_loss_noted = false; reason = None } else n
+
+-- What its follower says: a reason why it is not followed, or that it is, or that a record of it was refused.
+abbrev pub WithEvent : PeerEvent → NewsOfPeer → NewsOfPeer → Type 0
+WithEvent event n n' =
+    (is_reason event ≡ true → WithReason event n n')
+    × (is_reason event ≡ false → n' ≡ with_start (is_start event) (noted (Event event) n))
+
+-- what the loss of a connection is called
+abbrev pub loss_of : Bool → PeerNews
+loss_of found = if found then Lost else Unreached
+
+-- its connection is lost, which is no news where a reason was told
+abbrev pub with_loss : NewsOfPeer → NewsOfPeer
+with_loss n = record (if n.is_loss_noted then n else noted (loss_of n.is_found) n) { is_loss_noted = true; is_found = false }
+
+-- the moment behind the line that was told then
+abbrev pub behind_last : Option ℕ → ℕ
+behind_last None = 0
+behind_last (Some told) = later told news_pause
+
+-- the moment at which what waits is told
+abbrev pub news_moment : NewsOfPeer → ℕ
+news_moment n = if is_some n.waits then behind_last n.told_at else never
+
+-- What is told now: what waits, with how many were left out, if its moment has come; else nothing changes.
+abbrev pub TellsNews : ℕ → Option (PeerNews × ℕ) → NewsOfPeer → NewsOfPeer → Type 0
+TellsNews now None n n' = (n' ≡ n) × ((n.waits ≡ None) ⊎ (now < news_moment n))
+TellsNews now (Some (news, left)) n n' =
+    (n.waits ≡ Some news) × (n.left_out ≡ left) × (behind_last n.told_at ≤ now)
+    × (n' ≡ record n { waits = None; left_out = 0; told_at = Some now })

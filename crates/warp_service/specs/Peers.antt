@@ -1,0 +1,163 @@
+-- A peer that is followed: what its calls do to the places of its log, and to the way to it.
+use Rattle.std.specs.Prelude.{◌≡◌, ◌⊎◌, ℕ, ◌+◌, ◌-◌, ◌<◌, Bool, true, false, nat_lt, IsTrue, List, [], ◌∷◌, ◌++◌, length, codes, drop, Option, Some, None, if◌then◌else◌}
+use Rattle.warp_tag.specs.declared.form.Form.{Form}
+use Rattle.warp_record.specs.declared.record.Record.{Record}
+use Rattle.warp_record.specs.Record.{record_spelling}
+use Rattle.warp_record.specs.Lines.{kept_of}
+use Rattle.warp_hub.specs.Follow.{FollowState, TellsRecord, follows, unconnected}
+use Rattle.warp_hub.specs.declared.follow.Phase.TheVariants.{Over as NotDue}
+use Rattle.warp_service.specs.declared.contact.Contact.{Contact}
+use Rattle.warp_service.specs.declared.news.NewsOfPeer.{NewsOfPeer}
+use Rattle.warp_service.specs.declared.action.PeerAction.{PeerAction}
+use Rattle.warp_service.specs.declared.action.PeerAction.TheVariants.{Close, Tell, Seek, Connect, Send, Hear}
+use Rattle.warp_service.specs.Contact.{Stays, begun, is_number, is_open, is_sought, is_tried, is_waiting, lost, opened, tried}
+use Rattle.warp_service.specs.News.{TellsNews, with_loss}
+
+-- The way to the peer; how far its log is followed; what is to be sent to it; lines for the room that were not taken; bytes
+-- of it that were not heard; what its operator is told; which connection is to be closed; whether one is to be made; whether
+-- it is known that something is to be sent; whether what it said was no line.
+pub record PeerState : Type 0 where
+  pub contact : Contact
+  pub follower : FollowState
+  pub said : List ℕ
+  pub handed : List ℕ
+  pub kept : List ℕ
+  pub news : NewsOfPeer
+  pub closes : Option ℕ
+  pub connects : Bool
+  pub sending : Bool
+  pub broken : Bool
+
+-- One step along the log of a peer: it told the record that comes next, which was handed on; the room answered the oldest
+-- record that was handed on and not answered; the first that was not answered comes next again; it said something else.
+pub data FollowStep : Type 0 where
+  Told : Record → FollowStep
+  Answered : FollowStep
+  Returned : FollowStep
+  Spoke : FollowStep
+
+-- what a step does to the place that comes next and to how many before it were not answered. What is said where no records
+-- are due may begin anew: then nothing is said of the places
+abbrev pub FollowDoes : FollowStep → FollowState → FollowState → Type 0
+FollowDoes (Told said) f f' =
+    ((line : List ℕ) × TellsRecord f.form f.phase f.next line said) × (f'.next ≡ f.next + 1) × (f'.missing ≡ f.missing + 1)
+FollowDoes Answered f f' = (0 < f.missing) × (f'.next ≡ f.next) × (f'.missing ≡ f.missing - 1)
+FollowDoes Returned f f' = (f'.next ≡ f.next - f.missing) × (f'.missing ≡ 0)
+FollowDoes Spoke f f' = IsTrue (follows f.phase) → (f'.next ≡ f.next) × (f'.missing ≡ f.missing)
+
+-- steps, one after another
+abbrev pub FollowRuns : List FollowStep → FollowState → FollowState → Type 0
+FollowRuns [] f f' = f' ≡ f
+FollowRuns (step ∷ steps) f f' = (between : FollowState) × FollowDoes step f between × FollowRuns steps between f'
+
+-- the lines of the records that were told, each with its line feed
+abbrev pub lines_in : List FollowStep → List ℕ
+lines_in [] = []
+lines_in (Told said ∷ steps) = (record_spelling said ++ 10 ∷ []) ++ lines_in steps
+lines_in (step ∷ steps) = lines_in steps
+
+-- The peer was followed by some steps, and the records that it told in them wait for the room, behind the others, in their
+-- order.
+pub record Goes (f f' : FollowState) (handed handed' : List ℕ) : Type 0 where
+  pub steps : List FollowStep
+  pub runs : FollowRuns steps f f'
+  pub hands : handed' ≡ handed ++ lines_in steps
+
+-- What hearing of a peer does: it is followed by some steps, in which records are handed on in their order; the way to it
+-- stays, and its operator is told nothing yet.
+pub record HearsOn (p p' : PeerState) : Type 0 where
+  pub goes : Goes p.follower p'.follower p.handed p'.handed
+  pub stays : Stays p.contact p'.contact
+  pub told : p'.news.told_at ≡ p.news.told_at
+  pub closes : p'.closes ≡ p.closes
+  pub connects : p'.connects ≡ p.connects
+
+-- a peer of which nothing came, to be tried at once
+abbrev pub follower_of : Form → List ℕ → FollowState
+follower_of form program = record { kept = kept_of []; form = form; program = program; phase = NotDue; next = 1; missing = 0 }
+
+-- no connection is there any more, nor is one being made
+abbrev pub forgotten : ℕ → PeerState → PeerState
+forgotten now p = record p {
+  contact = lost now p.contact;
+  follower = unconnected p.follower;
+  said = [];
+  kept = [];
+  news = with_loss p.news;
+  connects = false;
+  sending = false;
+  broken = false;
+}
+
+-- the same, and the connection is to be closed
+abbrev pub given_up : ℕ → PeerState → PeerState
+given_up now p = record (forgotten now p) { closes = Some p.contact.number }
+
+-- the connection is given up, or it stays
+abbrev pub Settles : ℕ → PeerState → PeerState → Type 0
+Settles now p p' =
+    ((is_waiting p.contact.way ≡ false) × (p' ≡ given_up now p))
+    ⊎ ((p' ≡ record p { contact = p'.contact }) × Stays p.contact p'.contact)
+
+-- what an event of a connection does: it is heard, and then given up or not
+abbrev pub Hears : ℕ → PeerState → PeerState → Type 0
+Hears now p p' = (between : PeerState) × HearsOn p between × Settles now between p'
+
+-- An address was sought: a connection is to be made where there is one.
+abbrev pub with_found : ℕ → Bool → PeerState → PeerState
+with_found now found p =
+    if is_sought p.contact.way then (if found then record p { contact = begun now p.contact; connects = true } else forgotten now p) else p
+
+-- the connection of this number has ended, or could not be made
+abbrev pub with_end : ℕ → ℕ → PeerState → PeerState
+with_end now number p = if is_number number p.contact then given_up now p else p
+
+-- while so many bytes of lines wait for the room, nothing more is heard of a peer
+abbrev pub most_handed : ℕ
+most_handed = 8192
+
+-- what a host is asked that says nothing
+abbrev pub question : List ℕ
+question = codes "program\n"
+
+-- The connection is there: what is said first is to be sent, and the first record that was not answered comes next; or there
+-- was no memory, and it is given up.
+abbrev pub Opens : ℕ → PeerState → PeerState → Type 0
+Opens now p p' =
+    ((p'.follower ≡ record (unconnected p.follower) { phase = p'.follower.phase }) × (follows p'.follower.phase ≡ false)
+    × (p' ≡ record p { contact = opened now p.contact; follower = p'.follower; said = p'.said }))
+    ⊎ ((between : PeerState) × (between ≡ record p { follower = between.follower; said = between.said })
+    × (unconnected between.follower ≡ unconnected p.follower) × (p' ≡ given_up now between))
+
+-- What is wanted now, each once: that a connection is closed, that an operator is told something, that the address is sought,
+-- that a connection is made, that something is sent, that bytes are heard again.
+abbrev pub Acts : ℕ → Option PeerAction → PeerState → PeerState → Type 0
+Acts now None p p' = (p' ≡ p) × (p.closes ≡ None) × (is_tried now p.contact.way ≡ false) × (p.connects ≡ false)
+Acts now (Some (Close number)) p p' = (p.closes ≡ Some number) × (p' ≡ record p { closes = None })
+Acts now (Some (Tell news left)) p p' =
+    TellsNews now (Some (news, left)) p.news p'.news × (p' ≡ record p { news = p'.news })
+Acts now (Some Seek) p p' =
+    IsTrue (is_tried now p.contact.way) × (p.closes ≡ None) × (p' ≡ record p { contact = tried now p.contact })
+Acts now (Some (Connect number)) p p' =
+    IsTrue p.connects × (number ≡ p.contact.number) × (p.closes ≡ None) × (p' ≡ record p { connects = false })
+Acts now (Some (Send number)) p p' =
+    IsTrue (is_open p.contact.way) × (number ≡ p.contact.number) × (p' ≡ record p { sending = true })
+Acts now (Some (Hear number)) p p' =
+    IsTrue (is_open p.contact.way) × (number ≡ p.contact.number) × (length p.handed < most_handed)
+    × (p' ≡ record p { contact = record p.contact { heard = now; is_wanted = true } })
+
+-- so many bytes of what is to be sent by the connection of this number were sent
+abbrev pub with_sent : ℕ → ℕ → PeerState → PeerState
+with_sent number count p = record p {
+  said = if is_number number p.contact then drop count p.said else p.said;
+  sending = if is_number number p.contact then nat_lt count (length p.said) else p.sending;
+}
+
+-- a host that is quiet is asked a question, or there was no memory for it, and it is given up
+abbrev pub Questions : ℕ → PeerState → PeerState → Type 0
+Questions now p p' =
+    (p' ≡ record p { said = p.said ++ question; contact = record p.contact { is_questioned = true } }) ⊎ (p' ≡ given_up now p)
+
+-- the place of the first record that was not answered
+abbrev pub first_open : FollowState → ℕ
+first_open f = f.next - f.missing

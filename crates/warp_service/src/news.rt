@@ -1,0 +1,171 @@
+//! What an operator is told of a peer: a line each second at most. Of what comes faster the newest is told when the second
+//! is over, with how many were left out.
+ghost use Rattle.std.specs.Prelude.{◌≡◌, ◌≢◌, Option, Some, None, true, false};
+ghost use Rattle.warp_service.specs.News.{TellsNews, WithEvent, WithReason, is_reason, is_start, news_moment, noted, with_loss};
+
+use crate::contact::{NEVER, later};
+use warp_hub::PeerEvent;
+
+/// The least time between two lines of one peer, in microseconds.
+const PAUSE: u64 = 1_000_000;
+
+/// What came of a peer.
+#[derive(Clone, Copy, Debug, PartialEq, Eq)]
+pub enum PeerNews {
+    /// What its follower says.
+    Event(PeerEvent),
+    /// The connection to it was lost, though it was followed.
+    Lost,
+    /// A connection could not be made, or was lost before it was followed.
+    Unreached,
+}
+
+/// What is to be told of a peer.
+#[derive(Clone, Copy, Debug)]
+pub struct NewsOfPeer {
+    /// What is told next.
+    pub waits: Option<PeerNews>,
+    /// How many were left out in its favour.
+    pub left_out: u64,
+    /// When something was told last, in microseconds.
+    pub told_at: Option<u64>,
+    /// It is followed, as the operator knows.
+    pub is_found: bool,
+    /// What was noted last of why it isn't.
+    pub reason: Option<PeerEvent>,
+    /// That it isn't was noted.
+    pub is_loss_noted: bool,
+}
+
+impl NewsOfPeer {
+    /// Nothing came of it.
+    pub fn new() -> NewsOfPeer
+        ensures { result ≡ record { waits = None; left_out = 0; told_at = None; is_found = false; reason = None; is_loss_noted = false } }
+    {
+        NewsOfPeer {
+            waits: None,
+            left_out: 0,
+            told_at: None,
+            is_found: false,
+            reason: None,
+            is_loss_noted: false,
+        }
+    }
+
+    /// This came of it.
+    fn note(&mut self, news: PeerNews)
+        ensures { self.new ≡ noted news self.old }
+    {
+        if self.waits.is_some() {
+            self.left_out = self.left_out.saturating_add(1);
+        }
+        self.waits = Some(news);
+    }
+
+    /// Its follower says this.
+    pub fn note_event(&mut self, event: PeerEvent)
+        ensures { WithEvent event self.old self.new }
+    {
+        if is_reason(event) {
+            self.note_reason(event);
+            return;
+        }
+        self.note(PeerNews::Event(event));
+        if is_start(event) {
+            self.is_found = true;
+            self.is_loss_noted = false;
+            self.reason = None;
+        }
+    }
+
+    /// It is not followed, for this reason.
+    fn note_reason(&mut self, event: PeerEvent)
+        ensures { WithReason event self.old self.new }
+    {
+        if self.reason != Some(event) {
+            self.note(PeerNews::Event(event));
+        }
+        self.reason = Some(event);
+        self.is_loss_noted = true;
+    }
+
+    /// Its connection is lost, or none could be made.
+    pub fn note_loss(&mut self)
+        ensures { self.new ≡ with_loss self.old }
+    {
+        if !self.is_loss_noted {
+            let news = if self.is_found {
+                PeerNews::Lost
+            } else {
+                PeerNews::Unreached
+            };
+            self.note(news);
+        }
+        self.is_loss_noted = true;
+        self.is_found = false;
+    }
+
+    /// Whether it is followed.
+    pub fn is_found(&self) -> bool
+        ensures { result ≡ self.now.is_found }
+    {
+        self.is_found
+    }
+
+    /// When what waits is told.
+    pub fn next_moment(&self) -> u64
+        ensures { result ≡ news_moment self.now }
+    {
+        if self.waits.is_none() {
+            return NEVER;
+        }
+        match self.told_at {
+            Some(told) => later(told, PAUSE),
+            None => 0,
+        }
+    }
+
+    /// What is to be told now, and how many were left out before it.
+    pub fn next(&mut self, now: u64) -> Option<(PeerNews, u64)>
+        ensures { TellsNews now result self.old self.new }
+    {
+        if self.next_moment() > now {
+            return None;
+        }
+        let news = self.waits?;
+        let left_out = self.left_out;
+        self.waits = None;
+        self.left_out = 0;
+        self.told_at = Some(now);
+        Some((news, left_out))
+    }
+}
+
+/// Whether it says why a peer is not followed.
+fn is_reason(event: PeerEvent) -> bool
+    ensures { result ≡ is_reason event }
+{
+    match event {
+        PeerEvent::Found { .. } | PeerEvent::Refused { .. } => false,
+        PeerEvent::OtherProgram
+        | PeerEvent::NotAllowed
+        | PeerEvent::Untold
+        | PeerEvent::Strange
+        | PeerEvent::NoMemory => true,
+    }
+}
+
+/// Whether it says that a peer is followed now.
+fn is_start(event: PeerEvent) -> bool
+    ensures { result ≡ is_start event }
+{
+    match event {
+        PeerEvent::Found { .. } => true,
+        PeerEvent::Refused { .. }
+        | PeerEvent::OtherProgram
+        | PeerEvent::NotAllowed
+        | PeerEvent::Untold
+        | PeerEvent::Strange
+        | PeerEvent::NoMemory => false,
+    }
+}
