@@ -99,7 +99,8 @@ class Browser:
         return self.driver.execute_async_script(code, name, *words)
 
     def text(self, name):
-        return self.run("return document.getElementById(arguments[0]).textContent", name)
+        """An element's text; none where the page is not there yet."""
+        return self.run("return document.getElementById(arguments[0])?.textContent ?? ''", name)
 
     def field(self, name):
         return self.driver.find_element(By.ID, name)
