@@ -159,6 +159,80 @@ def lying_peer():
     liar.listener.close()
 
 
+class Breathless:
+    """A peer that takes connections, gives these answers to the first lines, and then a piece so many times, each behind a pause."""
+
+    def __init__(self, answers, piece, pause=0.0, most=100_000):
+        self.answers, self.piece, self.pause, self.most, self.tries = answers, piece, pause, most, 0
+        self.listener = socket.create_server((HOST, 0))
+        self.name = f"{HOST}:{self.listener.getsockname()[1]}"
+        threading.Thread(target=self.serve, daemon=True).start()
+
+    def serve(self):
+        while True:
+            try:
+                one, _ = self.listener.accept()
+            except OSError:
+                return
+            self.tries += 1
+            threading.Thread(target=self.answer, args=(one,), daemon=True).start()
+
+    def answer(self, one):
+        with one, one.makefile("rb") as asked, contextlib.suppress(OSError):
+            for line in self.answers:
+                asked.readline()
+                one.sendall(line.encode() + b"\n")
+            for _ in range(self.most):
+                time.sleep(self.pause)
+                one.sendall(self.piece)
+            while one.recv(1_000):
+                pass
+
+
+def endless_peers():
+    """A peer whose line has more bytes than any answer is lost before it ends, one whose line does not end in fifteen seconds is lost as one
+    that says nothing, also in front of any answer; each is told of, and tried again behind pauses that grow."""
+    with Hosted() as known:
+        own = known.talk().ask("program")
+    strange, lost = "lost: it said what answers no question\n", "lost: it is tried again\n"
+    kinds = {
+        "long line": (Breathless((), b"x" * 1_000), strange),
+        "long push": (Breathless((own, "watching 1"), b"* log 1 "), strange),
+        "129 bytes": (Breathless((own, "watching 1"), b"x" * 129, most=1), strange),
+        "128 bytes": (Breathless((own, "watching 1"), b"x" * 128, most=1), lost),
+        "trickle": (Breathless((), b"p", 0.5), lost),
+        "trickle of a push": (Breathless((own, "watching 1"), b"*", 0.5), lost),
+        "silent": (Breathless((), b"", most=0), lost),
+    }
+    peers, began = [word for it, _ in kinds.values() for word in ("--peer", it.name)], time.monotonic()
+    with Hosted(*peers, remarks=["peer "]) as host:
+        for kind, (it, line) in kinds.items():
+            wait_for(lambda it=it, line=line: f"peer {it.name} {line}" in host.printed(1), f"what is told of the {kind}", 40)
+            wait_for(lambda it=it: it.tries > 1, f"a second try of the {kind}", 40)
+        most = MOST_TRIES + (time.monotonic() - began) / 5
+        holds(all(it.tries <= most for it, _ in kinds.values()), f"how often: {[it.tries for it, _ in kinds.values()]}, at most {most}")
+        holds("can't be reached" not in host.printed(1), f"each was reached: {host.printed(1)}")
+    for it, _ in kinds.values():
+        it.listener.close()
+
+
+def refused_once():
+    """That a record of a peer is refused is told once for each reason, also where other lines about it come in the same second."""
+    with Hosted() as known:
+        own = known.talk().ask("program")
+    told = "watching 1\n* log 1 event 0 5 0 0 3\n* log 2 event 0 5 0 9 3\n* log 3 event 9 5 0 0 3\n* log 4 event 8 5 0 0 3"
+    peer = Breathless((own, told), b"nonsense\n", 0.3, most=1)
+    with Hosted("--peer", peer.name, remarks=["peer "]) as host:
+        wait_for(lambda: peer.tries > 2 and "lost: it said" in host.printed(1), "a line on another connection", 30)
+        lines = [line for line in host.printed(1).splitlines() if line.startswith("peer ")]
+        places = sorted(re.findall(r"its record at place (\d) was refused (\d+)", "\n".join(lines)))
+        same(len(places), 2, f"how many refusals are told, of {lines}")
+        same([place for place, _ in places], ["2", "3"], f"which records are told, of {lines}")
+        holds(places[0][1] != places[1][1], f"for which reasons, of {lines}")
+        host.talk().tell(("log 1", "log 1 event 0 5 0 0 3"), ("log 2", "none 1"))
+    peer.listener.close()
+
+
 class Noting:
     """A peer that answers each line by what the table has for its first word, and notes what it is sent; else it says nothing."""
 
@@ -280,4 +354,4 @@ def cross_site():
         holds(hosting.http(host.address, old.encode()).split(b" ")[1] == b"400", "an upgrade over HTTP/1.0 is 400")
 
 
-CASES = [web_floods, newest_ping, neither_lines_nor_requests, lying_peer, tokens_behind_programs, guesses, guesses_over_http, cross_site]
+CASES = [web_floods, newest_ping, neither_lines_nor_requests, lying_peer, endless_peers, refused_once, tokens_behind_programs, guesses, guesses_over_http, cross_site]

@@ -21,7 +21,7 @@ TWICE = "builtin:twice"
 
 def is_usual(line):
     """Whether a host without trouble says this on standard error: on its start, on its journal, on its end in order."""
-    return bool(re.match(r"started: |standard input ended|journal: \d+ records$|journal: begun, since it was empty or not there$", line))
+    return bool(re.match(r"started: |standard input ended|journal: \d+ records?$|journal: begun, since it was empty or not there$", line))
 
 
 class Hosted:

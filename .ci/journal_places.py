@@ -1,6 +1,7 @@
 """The cases of `.ci/journal` over where a journal stands: other names of one file, a lock that is gone, what stands beside it, and a file
 that is removed, renamed, cut short, written to or replaced while a host writes it."""
 
+import contextlib
 import errno
 import os
 import subprocess
@@ -10,7 +11,7 @@ from pathlib import Path
 import hosting
 import journals
 from disks import is_silent
-from journals import Room, fill, in_use, remarks, renewed
+from journals import Room, fill, in_use, is_kept, remarks, renewed
 from loopback import holds, same, wait_for
 
 GONE, SHORT, LONG = "it was removed, renamed or replaced", "it was cut short", "another wrote to it"
@@ -222,4 +223,120 @@ def no_file():
         same(sorted(it.name for it in Path(room.folder.name).iterdir()), ["pipe", "program.json"], "what stands there")
 
 
-CASES = [one_host, moved, replaced, permissions, beside, no_file]
+def holds_records(file, records):
+    """Whether this file is a journal of these records, whole."""
+    with contextlib.suppress(OSError, ValueError):
+        data = file.read_bytes()
+        return journals.read(data)[:2] == (records, len(data))
+    return False
+
+
+def left_with_more():
+    """A start that finds a fresh file with what the journal has not keeps that in `FILE.damaged` first, byte for byte, and says so: the journal
+    was replaced by an older copy, and the host was killed while it wrote it anew. One that has first records of the journal alone goes."""
+    with Room() as room:
+        fresh, aside = (Path(f"{room.file}.{it}") for it in ("new", "damaged"))
+        with room.host() as host:
+            old = fill(host, 2)
+        older = room.file.read_bytes()
+        host = room.host()
+        try:
+            sent = [f"event 0 {at} 0 0 1" for at in range(50, 60)]
+            same(host.talk().ask_all(sent)[-1], "taken 16", "the last record")
+            copy = Path(room.folder.name, "copy")
+            copy.write_bytes(older)
+            copy.rename(room.file)
+            wait_for(lambda: remarks(host) == [lost(GONE), ANOTHER], "what is said", 30)
+            wait_for(lambda: holds_records(fresh, old + sent), "the fresh file", 30)
+        finally:
+            host.kill()
+        data = fresh.read_bytes()
+        room.holds_log(old, said=[is_kept(room.file, len(data)), journals.LEFT])
+        same((aside.read_bytes(), aside.stat().st_mode & 0o777), (data, 0o600), "what is kept aside")
+        # What is kept is a journal, and is told by how many bytes it has.
+        first, kept = older[:older.index(b"\n")], aside.read_bytes()
+        few = journals.summed(first, [*old, "event 0 77 0 0 1"])
+        other = journals.summed(first, [*old[:-1], "event 0 77 0 0 1"])
+        many = journals.summed(first, old, 1)
+        holds(len(few) < len(many), "a fresh file with more records and fewer bytes")
+        for there in (few, other, few[:-3], b"no journal\n", journals.summed(first.replace(b" 2 1 ", b" 2 2 "), old),
+                      journals.summed(first, old) + b"x" * 200 + b"\n" + journals.summed(first, old)):
+            room.file.write_bytes(many)
+            fresh.write_bytes(there)
+            kept += there
+            room.holds_log(old, said=[is_kept(room.file, len(there)), journals.LEFT])
+            same(aside.read_bytes(), kept, "what is kept aside")
+        for there in (b"", first[:20], first + b"\n", many, older, journals.summed(first, old), journals.summed(first, old)[:-3], many[:300],
+                      journals.summed(journals.old_first(older), old)):
+            room.file.write_bytes(many)
+            fresh.write_bytes(there)
+            room.holds_log(old, said=[journals.LEFT])
+            same(aside.read_bytes(), kept, "what is kept aside")
+        # What can't be kept aside is not written over.
+        aside.rename(f"{aside}.old")
+        os.symlink("/nowhere", aside)
+        room.file.write_bytes(many)
+        fresh.write_bytes(few)
+        words = f"journal {room.file}: FILE.damaged is no regular file\ncannot use the journal\n"
+        same(room.refused(4, words), words, "a start that can't keep it aside")
+        same((room.file.read_bytes(), fresh.read_bytes()), (many, few), "the files")
+
+
+def own_lock():
+    """The file of a lock is made for its owner alone: who may read it may hold it. One that is there keeps its mode."""
+    with Room() as room:
+        lock = Path(f"{room.file}.lock")
+        for make in (lambda: None, lambda: lock.chmod(0o640), lock.unlink):
+            make()
+            mode = lock.stat().st_mode & 0o777 if lock.exists() else 0o600
+            with room.host():
+                same(lock.stat().st_mode & 0o777, mode, "who may read and write the lock")
+
+
+def open_files(host):
+    """What the descriptors of a host lead to."""
+    found = []
+    for it in Path(f"/proc/{host.process.pid}/fd").iterdir():
+        with contextlib.suppress(OSError):
+            found.append(os.readlink(it))
+    return found
+
+
+def lets_go():
+    """When a journal is written anew, nothing holds its old file any longer, also where no record comes."""
+    for words in ((), ("--sync", "10"), ("--sync", "never")):
+        with Room() as room, room.host(*words) as host:
+            fill(host, 2)
+            for count in range(1, 3):
+                room.file.rename(f"{room.file}.old{count}")
+                wait_for(lambda count=count: remarks(host) == [lost(GONE), renewed(6)] * count, "the journal written anew", 30)
+                wait_for(lambda: not any(f"{room.file.name}.old" in it for it in open_files(host)), f"the old file is let go of with {words}", 5)
+                holds(any(it.endswith(room.file.name) for it in open_files(host)), "the new file is open")
+            same(host.talk().ask("event 0 99 0 0 1"), "taken 7", "a record")
+
+
+def not_begun():
+    """`check` and `repair` of a file that is empty, or has a front of a first line, say so, and make no file beside it; nor does a `repair` of
+    what is no journal."""
+    with Room() as room:
+        with room.host() as host:
+            fill(host, 1)
+        data = room.file.read_bytes()
+        first = data[:data.index(b"\n")]
+        Path(f"{room.file}.lock").unlink()
+        room.program.unlink()
+        for front in (b"", b"w", first[:16], first[:17], first[:18], first[:40], first, journals.old_first(data)[:50]):
+            room.file.write_bytes(front)
+            line = f"torn: line 1 is not whole; {len(front)} bytes; a start begins it\n" if front else "empty: a start begins it\n"
+            for action in ("check", "repair"):
+                same(room.ended("journal", action, room.file, status=0, error="", printed=line), "", "what is said")
+        words = journals.is_other(room.file)
+        for other in (b"\n", b"wa\n", b"x", first + b"0", first[:16] + b"4", first[:17] + b"x", first[:-1] + b"g", first.upper(), data[1:], b"x" * 70_000):
+            room.file.write_bytes(other)
+            for action in ("check", "repair"):
+                same(room.ended("journal", action, room.file, status=3, error=words), words, f"what is said of {other[:90]!r}")
+            same(room.file.read_bytes(), other, "the file")
+        same([it.name for it in Path(room.folder.name).iterdir()], [room.file.name], "what stands there")
+
+
+CASES = [one_host, moved, replaced, permissions, beside, no_file, left_with_more, own_lock, lets_go, not_begun]

@@ -102,7 +102,17 @@ def fails(why):
 
 
 def renewed(count):
-    return f"journal: written anew, with {count} records"
+    return f"journal: written anew, with {count} record{'s' * (count != 1)}"
+
+
+def is_cut(file, number, why, cut):
+    """What a start says that cut so many bytes off, from this line on."""
+    return f"journal: line {number} {why}; {cut} byte{'s are' if cut != 1 else ' is'} cut off, and kept in {file}.damaged"
+
+
+def is_kept(file, count):
+    """What a start says that found so many bytes in the fresh file, with what the journal has not."""
+    return f"journal: FILE.new had what FILE has not; its {count} byte{'s are' if count != 1 else ' is'} kept at the end of {file}.damaged"
 
 
 def in_use(file):

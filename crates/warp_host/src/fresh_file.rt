@@ -192,6 +192,28 @@ fn left_by<F: Files<File = File>>(files: &F, path: &str, owner: u32) -> Option<F
     }
 }
 
+/// The fresh file that the owner of the journal at this place left beside it, from its beginning; `None` where none is
+/// there, or what is removed without a look: a link, a second name of a file, and what is another user's.
+pub(crate) fn open_left<F: Files<File = File>>(
+    files: &F,
+    alloc: Global,
+    place: &JournalPlace,
+) -> Result<Option<File>, FileFault> {
+    let name = path_beside(alloc, place.path.as_str())?;
+    let owner = fs::metadata(files, place.path.as_str())?.uid();
+    let Some(left) = left_by(files, name.as_str(), owner) else {
+        return Ok(None);
+    };
+    let file = OpenOptions::new()
+        .read(true)
+        .write(true)
+        .open(files, name.as_str())?;
+    if id_of(&file.metadata()?) != left {
+        return Ok(None);
+    }
+    Ok(Some(file))
+}
+
 /// Removes the fresh file of this name, if there is one.
 fn remove<F: Files<File = File>>(files: &F, path: &str) -> Result<(), FileFault> {
     if let Ok(about) = fs::symlink_metadata(files, path) {

@@ -5,9 +5,10 @@ ghost use Rattle.warp_host.specs.Telling.{told_with};
 use crate::durable::Tells;
 use crate::fresh_file::{
     JournalPlace, OWNER_ALONE, PIECE, begin, begin_beside, id_of, is_left, keep_aside, length_of,
-    lock_file, open_regular, real_path, refuse_special_file, sync_folder, take_place,
+    lock_file, open_left, open_regular, real_path, refuse_special_file, sync_folder, take_place,
 };
 use crate::journal_faults::{FileFault, OpenFault, tell_file_fault};
+use crate::operator::plural;
 use crate::renewal::take_in_batches;
 use crate::scribe::second_now;
 use std::alloc::Global;
@@ -133,11 +134,8 @@ pub struct FirstLines<'a> {
     pub old: &'a [u8],
 }
 
-/// Who may read and write the file of a lock that is made: whom the user's mask leaves.
-const LOCK_MODE: u32 = 0o666;
-
 /// Takes the lock of the journal at this path, which stands beside it. All paths that lead to the journal, but for hard
-/// links, have one lock.
+/// links, have one lock. Who may read its file may hold it: one that is made is for its owner alone.
 pub fn lock_journal<F: Files<File = File>>(
     files: &F,
     alloc: Global,
@@ -145,7 +143,7 @@ pub fn lock_journal<F: Files<File = File>>(
 ) -> Result<File, FileFault> {
     let mut name = real_path(files, alloc, path)?;
     name.push_str(".lock")?;
-    let lock = open_regular(files, name.as_str(), LOCK_MODE, FileFault::NoLock)?;
+    let lock = open_regular(files, name.as_str(), OWNER_ALONE, FileFault::NoLock)?;
     lock_file(&lock)?;
     Ok(lock)
 }
@@ -213,26 +211,33 @@ fn tell_damage<X: Eprint>(rt: &X, fault: Fault, line: u64) {
     );
 }
 
-/// Tells what was at the end of a journal that was read, and how many bytes of it were cut off.
-fn tell_ending<X: Eprint>(rt: &X, ending: Ending, line: u64, cut: u64) {
-    let _ = match ending {
-        Ending::Whole => Ok(()),
-        Ending::Torn => eprintln!(rt;
-            "journal: line {line} is torn; {cut} bytes are cut off, and kept in FILE.damaged"
-        ),
-        Ending::Cut(fault) | Ending::Damaged(fault) => {
-            let why = words_of(fault);
-            eprintln!(rt;
-                "journal: line {line} {why}; {cut} bytes are cut off, and kept in FILE.damaged"
-            )
-        }
+/// Tells what was at the end of a journal that was read, how many bytes of it were cut off, and the path of the file that
+/// has them.
+fn tell_ending<X: Eprint>(rt: &X, ending: Ending, line: u64, cut: u64, aside: &str) {
+    let (s, are) = plural(cut);
+    let why = match ending {
+        Ending::Whole => return,
+        Ending::Torn => "is torn",
+        Ending::Cut(fault) | Ending::Damaged(fault) => words_of(fault),
     };
+    let _ = eprintln!(rt;
+        "journal: line {line} {why}; {cut} byte{s} {are} cut off, and kept in {aside}"
+    );
+}
+
+/// Tells that the fresh file that was left had what the journal has not, that is kept at the end of the file at this path.
+fn tell_left<X: Eprint>(rt: &X, len: u64, aside: &str) {
+    let (s, are) = plural(len);
+    let _ = eprintln!(rt;
+        "journal: FILE.new had what FILE has not; its {len} byte{s} {are} kept at the end of {aside}"
+    );
 }
 
 /// Tells how many records a journal has that is gone on with, or that it is begun.
 fn tell_opened<X: Eprint>(rt: &X, count: u32, was_there: bool) {
+    let (s, _) = plural(u64::from(count));
     let _ = if was_there {
-        eprintln!(rt; "journal: {count} records")
+        eprintln!(rt; "journal: {count} record{s}")
     } else {
         rt.eprintln("journal: begun, since it was empty or not there")
     };
@@ -337,10 +342,10 @@ fn go_on<X: Files<File = File> + Eprint, T: Timeline>(
     }
     let cut = file.metadata()?.len().saturating_sub(kept);
     if ending != Ending::Whole {
-        keep_aside(rt, alloc, path, &mut file, kept)?;
+        let aside = keep_aside(rt, alloc, path, &mut file, kept)?;
         file.set_len(kept)?;
+        tell_ending(rt, ending, line, cut, aside.as_str());
     }
-    tell_ending(rt, ending, line, cut);
     Ok((JournalFile::new(file, kept), journal))
 }
 
@@ -452,6 +457,90 @@ fn first_of<'a>(
     Err(FileFault::Open(OpenFault::OtherFirst))
 }
 
+/// Whether the replica's log has these records behind so many others.
+fn has_records<T: Timeline>(replica: &Replica<T>, before: u32, records: &[Record]) -> bool {
+    let mut place = before;
+    for record in records {
+        place = place.saturating_add(1);
+        if replica.entry(place) != Some(*record) {
+            return false;
+        }
+    }
+    true
+}
+
+/// Whether the replica's log begins with all records of this file, which begins with this first line, and nothing else
+/// stands there but sums and a torn line.
+fn is_front_of_log<T: Timeline>(
+    alloc: Global,
+    left: &mut File,
+    first: &[u8],
+    replica: &Replica<T>,
+) -> Result<bool, FileFault> {
+    let mut reading = Reading::new(alloc, replica.program().form(), first)?;
+    let mut piece = vec![in alloc; 0u8; PIECE]?;
+    let mut records = Vec::new(alloc);
+    let mut before = 0u32;
+    left.rewind()?;
+    for _ in 0..u64::MAX {
+        let len = left.read(&mut piece)?;
+        if len == 0 {
+            break;
+        }
+        if let Err(why) = reading.take(alloc, piece.get(..len).unwrap_or(b""), &mut records) {
+            return Err(not_read(why));
+        }
+        if !has_records(replica, before, &records) {
+            return Ok(false);
+        }
+        before = before.saturating_add(u32::try_from(records.len()).unwrap_or(u32::MAX));
+        records.clear();
+    }
+    match reading.end() {
+        Ok(found) => Ok(matches!(found.ending, Ending::Whole | Ending::Torn)),
+        Err(why) => Err(not_read(why)),
+    }
+}
+
+/// Whether a file that was left has nothing that the replica's log has not at the same place.
+fn has_nothing_more<T: Timeline>(
+    alloc: Global,
+    left: &mut File,
+    lines: FirstLines<'_>,
+    replica: &Replica<T>,
+) -> Result<bool, FileFault> {
+    match first_of(alloc, left, lines) {
+        Ok(Some(first)) => is_front_of_log(alloc, left, first, replica),
+        // It has a front of a first line, or nothing.
+        Ok(None) => Ok(true),
+        Err(FileFault::Open(OpenFault::OtherFirst)) => Ok(false),
+        Err(fault) => Err(fault),
+    }
+}
+
+/// Moves aside what a host left in the fresh file beside the journal at this path, where that has what the journal has
+/// not: it is on the disk there before it goes. The file stays, as a mark.
+fn keep_left<X: Files<File = File> + Eprint, T: Timeline>(
+    rt: &X,
+    alloc: Global,
+    path: &str,
+    place: &JournalPlace,
+    lines: FirstLines<'_>,
+    replica: &Replica<T>,
+) -> Result<(), FileFault> {
+    let Some(mut left) = open_left(rt, alloc, place)? else {
+        return Ok(());
+    };
+    if has_nothing_more(alloc, &mut left, lines, replica)? {
+        return Ok(());
+    }
+    let len = left.metadata()?.len();
+    let aside = keep_aside(rt, alloc, path, &mut left, 0)?;
+    left.set_len(0)?;
+    tell_left(rt, len, aside.as_str());
+    Ok(())
+}
+
 /// Writes the replica's log to this journal, and brings it to the disk.
 fn write_log<T: Timeline>(
     fresh: &mut Keeper<JournalFile>,
@@ -548,6 +637,9 @@ fn opened<X: Files<File = File> + Eprint + Clock, T: Timeline>(
         Some(first) => go_on(rt, alloc, path, file, first, replica)?,
         None => begun(rt, alloc, file, &place)?,
     };
+    if journal.len() > 0 {
+        keep_left(rt, alloc, path, &place, lines, replica)?;
+    }
     let is_old = first == Some(lines.old);
     let keeper = keep_on(rt, alloc, disk, journal, &mut place, is_old, replica)?;
     let handle = JournalFile::new(keeper.disk().file.try_clone()?, 0);

@@ -82,6 +82,11 @@ pub(crate) fn tell_end<X: Eprint>(rt: &X) {
     let _ = rt.eprintln("standard input ended: the host ends");
 }
 
+/// What stands behind a word for so many things, and the verb: `1 record is`, `2 records are`.
+pub(crate) fn plural(count: u64) -> (&'static str, &'static str) {
+    if count == 1 { ("", "is") } else { ("s", "are") }
+}
+
 /// How many lines were left out, behind one that is told.
 #[derive(Clone, Copy)]
 struct LeftOut(u64);
@@ -181,12 +186,14 @@ pub(crate) fn tell_journal_not_renewed<X: Eprint>(rt: &X, fault: FileFault) {
 
 /// Tells that the journal was written anew, with so many records.
 pub(crate) fn tell_journal_renewed<X: Eprint>(rt: &X, count: u32) {
-    let _ = eprintln!(rt; "journal: written anew, with {count} records");
+    let (s, _) = plural(u64::from(count));
+    let _ = eprintln!(rt; "journal: written anew, with {count} record{s}");
 }
 
 /// Tells that a sync takes long, while so many records wait for the disk.
 pub(crate) fn tell_slow_sync<X: Eprint>(rt: &X, waiting: u32) {
+    let (s, are) = plural(u64::from(waiting));
     let _ = eprintln!(rt;
-        "journal: the disk is slow: a sync takes more than five seconds, and {waiting} records are not on it"
+        "journal: the disk is slow: a sync takes more than five seconds, and {waiting} record{s} {are} not on it"
     );
 }

@@ -9,6 +9,7 @@ use std::alloc::Global;
 use std::io::Eprint;
 use std::time::Duration;
 use warp_hub::{ClientId, Follower, PeerEvent};
+use warp_record::MAX_LINE;
 
 /// The first pause behind a connection that failed, and the longest, in milliseconds.
 const FIRST_PAUSE: u64 = 100;
@@ -64,8 +65,10 @@ pub(crate) struct Peer {
     has_brought: bool,
     /// When a server that has nothing new is asked again.
     asks_at: Option<Duration>,
-    /// Since when it says nothing.
+    /// Since when it ended no line.
     silence: Silence,
+    /// How many bytes came of the line that is not ended.
+    unended: usize,
     /// It is followed, as the operator knows.
     pub(crate) is_found: bool,
     /// What the operator was told last of why it isn't.
@@ -97,6 +100,7 @@ impl Peer {
             has_brought: false,
             asks_at: None,
             silence: Silence::new(now),
+            unended: 0,
             is_found: false,
             told: None,
             is_lost_told: false,
@@ -228,6 +232,7 @@ impl Peer {
         self.way = Way::Open(socket);
         self.since = Some(now);
         self.silence = Silence::new(now);
+        self.unended = 0;
         match self.follower.connect(&mut self.said) {
             Ok(()) => Ok(()),
             Err(_) => Err(Gone),
@@ -249,7 +254,7 @@ impl Peer {
         }
     }
 
-    /// Asks a peer that says nothing whether it is there. One that says nothing behind that is gone.
+    /// Asks a peer that ends no line whether it is there. One that ends none behind that is gone.
     fn mind_silence(&mut self, now: Duration) -> Result<(), Gone> {
         if self.silence.is_over(now) {
             return Err(Gone);
@@ -268,7 +273,7 @@ impl Peer {
         if !self.kept.is_empty() {
             self.silence = Silence::new(now);
             let kept = std::mem::replace(&mut self.kept, Vec::new(*self.said.allocator()));
-            return self.hear_bytes(&kept);
+            return self.hear_bytes(&kept, now);
         }
         if self.handed.len() >= MOST_HANDED {
             self.silence = Silence::new(now);
@@ -281,24 +286,23 @@ impl Peer {
         if socket.has_ended {
             return Err(Gone);
         }
-        if count > 0 {
-            self.silence = Silence::new(now);
-        }
-        self.hear_bytes(&buffer[..count])
+        self.hear_bytes(&buffer[..count], now)
     }
 
-    /// Hears bytes of the peer, as long as few wait for the hub; the rest is kept.
-    fn hear_bytes(&mut self, bytes: &[u8]) -> Result<(), Gone> {
+    /// Hears bytes of the peer, as long as few wait for the hub; the rest is kept. A line that is longer than any answer,
+    /// and is not ended, is none.
+    fn hear_bytes(&mut self, bytes: &[u8], now: Duration) -> Result<(), Gone> {
         let mut rest = bytes;
         for _ in 0..MOST_LINES {
             if rest.is_empty() || self.follower.is_over() || self.handed.len() >= MOST_HANDED {
                 break;
             }
-            let before = self.handed.len();
-            let (count, event) = self.follower.take(rest, &mut self.said, &mut self.handed);
+            let count = self.hear_piece(rest, now);
             rest = &rest[count.min(rest.len())..];
-            self.has_brought |= self.handed.len() > before;
-            self.tell(event);
+        }
+        if self.unended > MAX_LINE {
+            self.tell(Some(PeerEvent::Strange));
+            return Err(Gone);
         }
         if rest.is_empty() {
             return Ok(());
@@ -307,6 +311,26 @@ impl Peer {
             Ok(()) => Ok(()),
             Err(_) => Err(Gone),
         }
+    }
+
+    /// Hears bytes of the peer up to and with the first line feed, or all where there is none; how many. A peer that ends a
+    /// line is not silent.
+    fn hear_piece(&mut self, bytes: &[u8], now: Duration) -> usize {
+        let before = self.handed.len();
+        let (count, event) = self.follower.take(bytes, &mut self.said, &mut self.handed);
+        self.has_brought |= self.handed.len() > before;
+        self.tell(event);
+        let is_ended = match bytes.get(..count) {
+            Some(piece) => piece.last() == Some(&b'\n'),
+            None => false,
+        };
+        if is_ended {
+            self.unended = 0;
+            self.silence = Silence::new(now);
+        } else {
+            self.unended = self.unended.saturating_add(count);
+        }
+        count
     }
 
     /// Gives the hub what it takes of the lines for it.
@@ -376,7 +400,7 @@ impl Peer {
     /// the first again behind a connection that lasted and brought something.
     pub(crate) fn lose(&mut self, now: Duration) {
         if !self.is_lost_told {
-            let news = if self.is_found {
+            let news = if self.since.is_some() {
                 PeerNews::Lost
             } else {
                 PeerNews::Unreached

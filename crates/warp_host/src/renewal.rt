@@ -90,7 +90,19 @@ impl<'a> Scribe<'a> {
         self.durable.note_waiting(None);
         self.durable.note_written(Written::of_synced(synced));
         self.durable.note_synced(synced);
+        self.let_go(rt, synced);
         Ok(())
+    }
+
+    /// Has the thread that syncs take the fresh file at once, which is on the disk: so none holds the old one any longer.
+    fn let_go<X: Clock>(&mut self, rt: &X, synced: Synced) {
+        if !self.syncs.may_ask() {
+            return;
+        }
+        let now = rt.monotonic().unwrap_or(Duration::MAX);
+        self.syncs
+            .ask(self.beginnings, Written::of_synced(synced), now, now);
+        self.durable.wake_syncer();
     }
 
     /// Takes the log from its beginning, of which there are so many records at least, and brings it to the disk. How

@@ -1,5 +1,5 @@
-//! A peer that says nothing: it is asked whether it is there, and given up where it does not answer. A connection that
-//! died without a word, as that of a machine without power, is told by nothing else.
+//! A peer that says nothing, which is no whole line: it is asked whether it is there, and given up where it does not answer.
+//! A connection that died without a word, as that of a machine without power, is told by nothing else.
 
 use std::time::Duration;
 

@@ -363,6 +363,13 @@ fn peers_with_tokens<X: Files + Eprint>(
     or_memory(peers_of(alloc, &job.peers, &text))
 }
 
+/// Whether a record may wait for so many milliseconds, as this word spells them: digits alone, without a zero in front.
+fn may_wait(word: &str, milliseconds: u64) -> bool {
+    let digits = word.as_bytes();
+    let is_plain = digits.iter().all(|byte| byte.is_ascii_digit()) && digits.first() != Some(&b'0');
+    is_plain && milliseconds <= LONGEST_WAIT
+}
+
 /// When a journal is brought to the disk, if there is one.
 fn sync_of<X: Eprint>(rt: &X, word: Option<&str>, has_journal: bool) -> Result<SyncWhen, Outcome>
     ensures { IfErr result KeepsFromHosting }
@@ -381,9 +388,7 @@ fn sync_of<X: Eprint>(rt: &X, word: Option<&str>, has_journal: bool) -> Result<S
         return Ok(SyncWhen::Never);
     }
     match word.parse::<u64>() {
-        Ok(milliseconds) if 1 <= milliseconds && milliseconds <= LONGEST_WAIT => {
-            Ok(SyncWhen::Every(milliseconds))
-        }
+        Ok(milliseconds) if may_wait(word, milliseconds) => Ok(SyncWhen::Every(milliseconds)),
         _ => {
             tell_word(rt, "--sync", word, "no such time");
             Err(Outcome::NoSync)
@@ -391,12 +396,23 @@ fn sync_of<X: Eprint>(rt: &X, word: Option<&str>, has_journal: bool) -> Result<S
     }
 }
 
-/// This path.
-fn path_of(alloc: Global, word: Option<&str>) -> Result<Option<String>, AllocError> {
-    match word {
-        Some(word) => Ok(Some(String::from_str(alloc, word)?)),
-        None => Ok(None),
+/// The path of the journal, if there is to be one. An empty one names no file.
+fn journal_of<X: Eprint>(
+    rt: &X,
+    alloc: Global,
+    word: Option<&str>,
+) -> Result<Option<String>, Outcome>
+    ensures { IfErr result KeepsFromHosting }
+{
+    let Some(word) = word else {
+        return Ok(None);
+    };
+    if word.is_empty() {
+        tell_word(rt, "--journal", "''", "an empty word names no file");
+        return Err(Outcome::NoJournal);
     }
+    let path = or_memory(String::from_str(alloc, word))?;
+    Ok(Some(path))
 }
 
 /// What the words and the files of a host say.
@@ -422,7 +438,7 @@ pub(crate) fn host_plan<X: Files + Eprint>(
     let peers = peers_with_tokens(rt, alloc, job)?;
     let origins = origins_of(rt, alloc, &job.origins)?;
     let sync = sync_of(rt, job.sync, job.journal.is_some())?;
-    let journal = or_memory(path_of(alloc, job.journal))?;
+    let journal = journal_of(rt, alloc, job.journal)?;
     Ok(HostPlan {
         address,
         clients: clients_of(job.clients),

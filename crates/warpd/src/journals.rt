@@ -7,7 +7,7 @@ use crate::print;
 use crate::service::Host;
 use crate::streams::Streams;
 use std::alloc::{AllocError, Global};
-use std::fs::{self, File, Files, OpenOptions};
+use std::fs::{File, Files, OpenOptions};
 use std::io::{Read, Seek};
 use warp_host::{
     FileFault, OpenFault, keep_aside, lock_file, lock_journal, refuse_special_file,
@@ -19,6 +19,9 @@ use warp_tag::Form;
 
 /// What the first line of each journal begins with, in front of the version: of form 2, and of form 1.
 const FRONTS: [&[u8]; 2] = [b"warpd journal 2 ", b"warpd journal 1 "];
+
+/// The most bytes of a first line, without its line feed.
+const LONGEST_FIRST: usize = 82;
 
 /// So many bytes of a journal are read at once.
 const PIECE: usize = 65_536;
@@ -104,13 +107,57 @@ fn behind_form(first: &[u8]) -> Option<&[u8]> {
     None
 }
 
+/// Whether these are digits of a fingerprint.
+fn are_digits(bytes: &[u8]) -> bool {
+    bytes.iter().all(|byte| byte.is_ascii_digit() || (b'a'..=b'f').contains(byte))
+}
+
+/// Whether a first line may begin so behind its form.
+fn is_begun(rest: &[u8]) -> bool {
+    let is_version = match rest.first() {
+        Some(byte) => (b'1'..=b'3').contains(byte),
+        None => true,
+    };
+    let is_parted = match rest.get(1) {
+        Some(byte) => *byte == b' ',
+        None => true,
+    };
+    is_version && is_parted && are_digits(rest.get(2..).unwrap_or(b""))
+}
+
+/// Whether these bytes are the front of the first line of a journal, whole or not, without its line feed.
+fn is_front(bytes: &[u8]) -> bool {
+    match behind_form(bytes) {
+        Some(rest) => bytes.len() <= LONGEST_FIRST && is_begun(rest),
+        None => FRONTS.iter().any(|front| front.starts_with(bytes)),
+    }
+}
+
+/// What is told of this file, read from its beginning, where it is empty, or has no more than a front of a first line: a
+/// host begins it. `None` for any other, which can be read from its beginning again.
+fn unbegun(alloc: Global, file: &mut File) -> Result<Option<Account>, FileFault> {
+    let mut room = vec![in alloc; 0u8; LONGEST_FIRST + 1]?;
+    let len = file.read(&mut room)?;
+    file.rewind()?;
+    if !is_front(room.get(..len).unwrap_or(b"")) {
+        return Ok(None);
+    }
+    let text = if len == 0 {
+        String::from_str(alloc, "empty: a start begins it\n")?
+    } else {
+        format!(in alloc; "torn: line 1 is not whole; {len} bytes; a start begins it\n")?
+    };
+    Ok(Some(Account {
+        text,
+        damaged_at: None,
+    }))
+}
+
 /// The form of a journal's program, by the first line.
 fn form_of(first: &[u8]) -> Option<Form> {
     let rest = behind_form(first)?;
     let fingerprint = rest.get(2..)?;
-    let is_digits = fingerprint.iter().all(|byte| byte.is_ascii_digit()
-        || (b'a'..=b'f').contains(byte));
-    if fingerprint.len() != 64 || !is_digits {
+    if fingerprint.len() != 64 || !are_digits(fingerprint) {
         return None;
     }
     match rest.get(..2)? {
@@ -233,7 +280,10 @@ fn ascii(alloc: Global, bytes: &[u8]) -> Result<String, AllocError> {
 /// Tells what the journal at this path has.
 fn checked<P: Host>(rt: &P, alloc: Global, path: &str) -> Result<Account, FileFault> {
     refuse_special_file(rt, path)?;
-    let file = File::open(rt, path)?;
+    let mut file = File::open(rt, path)?;
+    if let Some(account) = unbegun(alloc, &mut file)? {
+        return Ok(account);
+    }
     let seen = see_all(alloc, file)?;
     let mut text = seen.head(alloc)?;
     text.push_str(seen.ending(alloc)?.as_str())?;
@@ -244,11 +294,31 @@ fn checked<P: Host>(rt: &P, alloc: Global, path: &str) -> Result<Account, FileFa
     Ok(Account { text, damaged_at })
 }
 
-/// Keeps what is whole in front of the journal at this path, moves the rest to a file beside it, and tells so.
+/// Looks at the file at this path without its lock. What is told of one that is not begun; `None` for one that begins as a
+/// journal, and any other is refused.
+fn looked_at<F: Files<File = File>>(
+    files: &F,
+    alloc: Global,
+    path: &str,
+) -> Result<Option<Account>, FileFault> {
+    let mut file = File::open(files, path)?;
+    if let Some(account) = unbegun(alloc, &mut file)? {
+        return Ok(Some(account));
+    }
+    let first = first_line_of(alloc, &mut file)?;
+    match form_of(&first) {
+        Some(_) => Ok(None),
+        None => Err(FileFault::Open(OpenFault::OtherFirst)),
+    }
+}
+
+/// Keeps what is whole in front of the journal at this path, moves the rest to a file beside it, and tells so. Where no
+/// journal is there, no lock's file is made beside it.
 fn repaired<P: Host>(rt: &P, alloc: Global, path: &str) -> Result<Account, FileFault> {
     refuse_special_file(rt, path)?;
-    // Where none is there, no lock's file is made beside it.
-    let _about = fs::metadata(rt, path)?;
+    if let Some(account) = looked_at(rt, alloc, path)? {
+        return Ok(account);
+    }
     let _lock = lock_journal(rt, alloc, path)?;
     let file = OpenOptions::new().read(true).write(true).open(rt, path)?;
     lock_file(&file)?;
