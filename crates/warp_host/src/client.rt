@@ -261,6 +261,7 @@ impl Client {
     /// Reads nothing more of it: what was read is answered. Whether it is still to be served.
     pub(crate) fn stop(&mut self) -> bool {
         self.socket.has_ended = true;
+        self.socket.is_stopped = true;
         match &self.speech {
             Speech::Lines(_) | Speech::Web(_) | Speech::Over(_) => true,
             Speech::Unknown | Speech::Http(_) => false,

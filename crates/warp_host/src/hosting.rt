@@ -336,6 +336,7 @@ fn make_serving<'a, X: System>(rt: &X, start: Start<'a>) -> Result<(Serving<'a>,
         slow_told: 0,
         forbidden_told: 0,
         is_full_told: false,
+        is_slow_write_told: false,
     };
     Ok((serving, wants_lookup))
 }

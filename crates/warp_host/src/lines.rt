@@ -61,7 +61,7 @@ impl Lines {
         }
         if !self.waits() && socket.has_ended && !self.has_ended {
             self.has_ended = true;
-            post.end(self.id);
+            end_or_stop(self.id, socket, post);
         }
         Ok(())
     }
@@ -84,6 +84,15 @@ impl Lines {
         }
         let taken = post.take(self.id, bytes).min(count);
         self.rest.keep(&bytes[taken..])
+    }
+}
+
+/// No more lines come of this client: it has said all, or the host ends.
+pub(crate) fn end_or_stop(id: ClientId, socket: &Socket, post: &mut Post<'_>) {
+    if socket.is_stopped {
+        post.stop(id);
+    } else {
+        post.end(id);
     }
 }
 

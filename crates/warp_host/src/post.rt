@@ -78,6 +78,11 @@ impl<'a> Post<'a> {
         self.hub.end(client);
     }
 
+    /// Nothing more is heard of a client, since the host ends.
+    pub(crate) fn stop(&mut self, client: ClientId) {
+        self.hub.stop(client);
+    }
+
     /// Fetches the answers that are there, of a log that is no longer than this.
     pub(crate) fn fetch(&mut self, durable: u32) {
         self.hub.fetch(durable, self.board);

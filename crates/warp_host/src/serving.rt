@@ -97,6 +97,7 @@ pub(crate) struct Serving<'a> {
     pub(crate) slow_told: u64,
     pub(crate) forbidden_told: u64,
     pub(crate) is_full_told: bool,
+    pub(crate) is_slow_write_told: bool,
 }
 
 impl<'a> Serving<'a> {
@@ -470,12 +471,23 @@ impl<'a> Serving<'a> {
             operator::tell_log_full(rt);
             self.is_full_told = true;
         }
+        self.tell_slow_write(rt);
     }
 
-    /// How many records are written and not on the disk.
+    /// Tells the operator once that a write of the journal takes long, until none does.
+    fn tell_slow_write<X: Eprint>(&mut self, rt: &X) {
+        let is_slow = self.durable.is_write_slow(self.common.now);
+        if is_slow && !self.is_slow_write_told {
+            let (unwritten, _) = self.durable.waiting();
+            operator::tell_slow_write(rt, unwritten);
+        }
+        self.is_slow_write_told = is_slow;
+    }
+
+    /// How many records were taken and are not on the disk.
     fn unsynced(&self) -> u64 {
-        let synced = self.durable.synced();
-        u64::from(self.durable.written().saturating_sub(synced))
+        let (_, unsynced) = self.durable.waiting();
+        u64::from(unsynced)
     }
 
     /// Notes what is measured.

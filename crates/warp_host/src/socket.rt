@@ -24,6 +24,8 @@ pub(crate) struct Socket {
     pub(crate) has_ended: bool,
     /// The end of what comes was read.
     pub(crate) is_at_end: bool,
+    /// Nothing more is read, since the host ends.
+    pub(crate) is_stopped: bool,
 }
 
 impl Socket {
@@ -36,6 +38,7 @@ impl Socket {
             is_closed: false,
             has_ended: false,
             is_at_end: false,
+            is_stopped: false,
         }
     }
 

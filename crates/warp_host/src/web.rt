@@ -9,6 +9,7 @@ ghost use Rattle.std.specs.Prelude.{◌≤◌, IfOk, length};
 use crate::framed::Framed;
 use crate::frames::next_message;
 use crate::kept::Kept;
+use crate::lines::end_or_stop;
 use crate::post::Post;
 use crate::socket::{Gone, Socket};
 use bytes::BytesMut;
@@ -140,7 +141,7 @@ impl Web {
         let is_done = self.is_closing || (socket.has_ended && !self.has_frames && !self.waits());
         if is_done && !self.has_ended {
             self.has_ended = true;
-            post.end(self.id);
+            end_or_stop(self.id, socket, post);
         }
         Ok(())
     }
