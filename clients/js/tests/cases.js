@@ -264,10 +264,10 @@ hosted("a host that lies in a reply is not believed: the client ends", async ({ 
 })
 
 hosted("a host that lies in its greeting, in a push, or in another form than a short text is not believed", async ({ assert, connect }) => {
-  /** @type {[string, string][]} */
-  const greetings = [...NO_NAMES.map(it => ["names", it]), ...NO_PROGRAMS.map(it => ["program", it])]
-  for (const [line, reply] of greetings) {
-    await assert.rejects(overLies(connect, said => (said === line ? reply : saying(undefined)(said))).ready, isEnd, reply.slice(0, 99))
+  for (const [line, replies] of Object.entries({ names: NO_NAMES, program: NO_PROGRAMS })) {
+    for (const reply of replies) {
+      await assert.rejects(overLies(connect, said => (said === line ? reply : saying(undefined)(said))).ready, isEnd, reply.slice(0, 99))
+    }
   }
   for (const said of [...NO_PUSHES.map(it => `* ${it}`), new Uint8Array(9), `* rolled ${"9".repeat(1_048_577)}`]) {
     await assert.rejects(overLies(connect, saying(said)).var(0), isEnd, `${said}`.slice(0, 99))
