@@ -130,7 +130,7 @@ export interface ClientOptions {
   /** Whether to connect again after a lost connection; true where it is left out. */
   reconnect?: boolean
   /**
-   * For how many milliseconds an answer is waited for: 10,000 where it is left out; null is without an end. Behind them the
+   * For how many milliseconds an answer is waited for: without an end where it is left out or null. Behind them the
    * connection is given up, and made again; where that does not help, or is not wanted, the client ends.
    */
   timeout?: number | null

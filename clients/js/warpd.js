@@ -36,8 +36,7 @@ const LASTED = 1_000
 const MOST_MESSAGE = 16_000
 const MOST_HEARD = 2 ** 20
 const SHOWN = 200
-// For how long an answer is waited for where nothing else is said, and in what parts that is counted, in milliseconds.
-const TIMEOUT = 10_000
+// In what parts it is counted for how long an answer is waited for, in milliseconds.
 const PART = 1_000
 // So many lines of a log are asked for before their answers are awaited.
 const WINDOW = 1_024
@@ -452,10 +451,10 @@ export class Client {
   /**
    * @param {string} url where the host's WebSocket is, as "ws://127.0.0.1:7070/ws"
    * @param options `token`: who this is, where the host wants to know; `reconnect`: whether to connect again after a
-   *   lost connection, true where it is left out; `timeout`: for how many milliseconds an answer is waited for, 10,000 where
-   *   it is left out, null for no end; `WebSocket`: the class to take where there is none (Node 20: that of the package ws)
+   *   lost connection, true where it is left out; `timeout`: for how many milliseconds an answer is waited for, without
+   *   an end where it is left out; `WebSocket`: the class to take where there is none (Node 20: that of the package ws)
    */
-  constructor(url, { token, reconnect = true, timeout = TIMEOUT, WebSocket = globalThis.WebSocket } = {}) {
+  constructor(url, { token, reconnect = true, timeout = null, WebSocket = globalThis.WebSocket } = {}) {
     if (!WebSocket) throw new TypeError("there is no WebSocket here: hand in a class, as { WebSocket } of the package ws")
     this.url = url
     this.timeout = timeout ?? Infinity
@@ -468,6 +467,7 @@ export class Client {
     })
     this.ready.catch(() => {})
     this.#connect()
+    if (this.timeout === Infinity) return
     const part = Math.min(this.timeout / 8, PART)
     this.#clock = setInterval(() => this.#wait(part), part)
   }

@@ -302,7 +302,7 @@ hosted("an honest host is believed with a short time, however long nothing is as
   /** @type {number[]} */
   const places = []
   await Promise.all([short.ready, patient.ready])
-  assert.deepEqual([client.timeout, short.timeout, patient.timeout], [10_000, 2_000, Infinity])
+  assert.deepEqual([client.timeout, short.timeout, patient.timeout], [Infinity, 2_000, Infinity])
   await short.watch("log", ({ place }) => places.push(place)).started
   await sleep(2_500)
   assert.deepEqual(await short.event("r.a", { time: 5, value: -3 }), { place: 1, isNew: true })

@@ -5,7 +5,7 @@ use http::HeaderValue;
 /// What the page may do in a browser: its own style and script alone, told by their SHA-256, and connect to its host.
 const POLICY: &str = "\
 default-src 'none'; \
-script-src 'sha256-LXWkg2q6p+9L9SrcKuezR5XSZ3JL/Xtjv+59w+qmVXk='; \
+script-src 'sha256-rAO98Kvhy7IzcsMkNFPhzcWU3MnCqBRl5fFHRVv2dWU='; \
 style-src 'sha256-w6wrpSjQQo2ITNrYMfX6Z7+uynafgFVJ8u9XhCCqJFo='; \
 connect-src 'self'; \
 img-src data:; \
@@ -135,7 +135,6 @@ const LASTED=1_000
 const MOST_MESSAGE=16_000
 const MOST_HEARD=2 ** 20
 const SHOWN=200
-const TIMEOUT=10_000
 const PART=1_000
 class Queue{
 #items
@@ -432,7 +431,7 @@ onstate=null
 error=null
 connections=0
 ready
-constructor(url,{token,reconnect=true,timeout=TIMEOUT,WebSocket=globalThis.WebSocket}={}){
+constructor(url,{token,reconnect=true,timeout=null,WebSocket=globalThis.WebSocket}={}){
 if(!WebSocket)throw new TypeError("there is no WebSocket here: hand in a class, as { WebSocket } of the package ws")
 this.url=url
 this.timeout=timeout??Infinity
@@ -445,6 +444,7 @@ this.#isNotReady=reject
 })
 this.ready.catch(()=>{})
 this.#connect()
+if(this.timeout===Infinity)return
 const part = Math.min(this.timeout / 8, PART)
 this.#clock=setInterval(()=>this.#wait(part),part)
 }
