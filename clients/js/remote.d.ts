@@ -11,6 +11,8 @@ export interface RemoteOptions {
   /** Where the host's WebSocket is, and who this is, where the host wants to know. */
   url: string
   token?: string
+  /** As that of a client. */
+  timeout?: number | null
   /** The bytes of the engine, or the module that was compiled from them. */
   engine: BufferSource | WebAssembly.Module
   /** The text of the host's program's file. */

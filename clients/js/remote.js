@@ -48,8 +48,8 @@ export class RemoteReplica {
 
   /**
    * @param worker a worker of `worker.js`
-   * @param options as those of a `Replica`, but for `now`; and in the place of a client `url` and `token`, and as `engine` its bytes, or
-   *   the module that was compiled from them. In Node 20, which has no WebSocket, `webSocketFrom`: the file of a module that has it.
+   * @param options as those of a `Replica`, but for `now`; and in the place of a client `url`, `token` and `timeout`, and as `engine`
+   *   its bytes, or the module that was compiled from them. In Node 20, which has no WebSocket, `webSocketFrom`: the file of a module that has it.
    */
   constructor(worker, options) {
     this.#worker = worker

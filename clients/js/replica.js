@@ -20,10 +20,12 @@
 import { NoMemory } from "./engine.js"
 import { Executed, placeOf, tagOf } from "./executed.js"
 import { Smooth } from "./smooth.js"
-import { Announcer, Refused, replyOf } from "./warpd.js"
+import { Announcer, Ended, Refused, replyOf } from "./warpd.js"
 
 // The quickest of so many late ticks tells when the host's clock began.
 const SAMPLES = 300
+// The log that the host has at the beginning is looked for so often, in milliseconds.
+const LOOK_EVERY = 5
 // Lines are handed to the engine so many bytes at a time, or a line more.
 const PIECE = 60_000
 
@@ -208,16 +210,25 @@ export class Replica {
     this.client.onReopened(() => this.#reopened().catch(() => {}))
     this.#follow(1)
     await this.#watch.started
-    const { log } = await this.client.horizon()
-    while (this.#log.length + this.#arrived.length < log) {
-      if (this.error ?? this.client.error) throw this.error ?? this.client.error
-      await new Promise(resolve => setTimeout(resolve, 5))
-    }
+    await this.#came((await this.client.horizon()).log)
     this.#take()
     if (this.#smooth) this.#glide(false)
     this.#isReady = true
     if (this.#announcer) await this.#announcer.began
     return this
+  }
+
+  /** Waits until so many records came; where none comes for as long as the client waits for an answer, it is an `Ended`. */
+  async #came(log) {
+    for (let before = 0, waited = 0; ; waited += LOOK_EVERY) {
+      const count = this.#log.length + this.#arrived.length
+      if (count >= log) return
+      if (this.error ?? this.client.error) throw this.error ?? this.client.error
+      if (count !== before || this.client.state !== "open") waited = 0
+      if (waited > this.client.timeout) throw new Ended(`the host has ${log} records, and tells ${count}`)
+      before = count
+      await new Promise(resolve => setTimeout(resolve, LOOK_EVERY))
+    }
   }
 
   #setClock() {

@@ -101,7 +101,7 @@ export class Refused extends Error {
   readonly line: string
 }
 
-/** The client was closed, or the host says what does not read: what was sent last may have been taken or not. */
+/** The client was closed, or the host says what does not read, or nothing: what was sent last may have been taken or not. */
 export class Ended extends Error {}
 
 /** What the numbers of a program stand for: a number is the place in its list. */
@@ -129,6 +129,11 @@ export interface ClientOptions {
   token?: string
   /** Whether to connect again after a lost connection; true where it is left out. */
   reconnect?: boolean
+  /**
+   * For how many milliseconds an answer is waited for: without an end where it is left out or null. Behind them the
+   * connection is given up, and made again; where that does not help, or is not wanted, the client ends.
+   */
+  timeout?: number | null
   /** The class to take where there is none, as that of the package ws in Node 20. */
   WebSocket?: unknown
 }
@@ -137,6 +142,8 @@ export interface ClientOptions {
 export class Client {
   constructor(url: string, options?: ClientOptions)
   readonly url: string
+  /** For how many milliseconds an answer is waited for; Infinity where that has no end. */
+  readonly timeout: number
   /** The variables by name, as a watch of "vars" keeps them. */
   readonly vars: Record<string, Value>
   readonly names: Names
@@ -198,5 +205,5 @@ export class Announcer {
   announce(tag: { time: number; micro?: number }): Promise<Taken>
 }
 
-/** The value that a reply stands for: a `Refused` where it refuses, null for `none`. */
+/** The value that a reply to this line stands for: a `Refused` where it refuses, null for `none`. What is none is an `Ended`. */
 export function replyOf(text: string, line: string): unknown

@@ -32,8 +32,12 @@ const FIRST_PAUSE = 100
 const LONGEST_PAUSE = 5_000
 // A connection that lasted so long behind its greeting, or brought a record, is followed by the first pause again.
 const LASTED = 1_000
-// A host takes messages of 16 KiB at most.
+// A host takes messages of 16 KiB at most, and says none of more letters than these; an error shows so many of them.
 const MOST_MESSAGE = 16_000
+const MOST_HEARD = 2 ** 20
+const SHOWN = 200
+// In what parts it is counted for how long an answer is waited for, in milliseconds.
+const PART = 1_000
 // So many lines of a log are asked for before their answers are awaited.
 const WINDOW = 1_024
 
@@ -50,13 +54,17 @@ class Queue {
     return this.#items.length - this.#first
   }
 
+  get first() {
+    return this.#items[this.#first]
+  }
+
   push(item) {
     this.#items.push(item)
   }
 
   /** The first one, which goes; undefined where there is none. What went is let go of where it is half of all. */
   shift() {
-    const item = this.#items[this.#first]
+    const item = this.first
     if (this.length) this.#first += 1
     if (2 * this.#first >= this.#items.length) {
       this.#items.splice(0, this.#first)
@@ -73,11 +81,17 @@ class Queue {
   }
 }
 
+/** What a host says as an error shows it. */
+const shown = text => JSON.stringify(text.length > SHOWN ? `${text.slice(0, SHOWN)}..` : text)
+
+/** A line as an error shows it: a token is not told. */
+const told = line => line.replace(/^token .*/, "token ..")
+
 /** A line that was refused: its number, what that means, and the line. Nothing was changed. */
 export class Refused extends Error {
   constructor(number, line) {
     const meaning = MEANINGS[number] ?? "unknown"
-    super(`refused ${number}: ${meaning}: ${line}`)
+    super(`refused ${number}: ${meaning}: ${told(line)}`)
     this.name = "Refused"
     this.number = number
     this.meaning = meaning
@@ -85,7 +99,7 @@ export class Refused extends Error {
   }
 }
 
-/** The client was closed, or the host says what does not read: what was sent last may have been taken or not. */
+/** The client was closed, or the host says what does not read, or nothing: what was sent last may have been taken or not. */
 export class Ended extends Error {
   constructor(message) {
     super(message)
@@ -94,7 +108,7 @@ export class Ended extends Error {
 }
 
 /** The end that an error means which came of reading this. */
-const endBy = (error, text) => error instanceof Ended ? error : new Ended(`the host says what does not read: "${text}": ${error.message}`)
+const endBy = (error, text) => error instanceof Ended ? error : new Ended(`the host says what does not read: ${shown(text)}: ${error.message}`)
 
 /** Calls back. What is thrown there is told as uncaught, and keeps nothing that the host says from being read. */
 function callBack(callback, value) {
@@ -149,96 +163,169 @@ function whole(name, value, most, least = 0) {
 const tagIn = ({ time, micro = 0 } = {}) => `${whole("time", time, 15_625_000)} ${whole("micro", micro, 255)}`
 const valueIn = ({ value }) => whole("value", value, 2n ** 63n - 1n, -(2n ** 63n))
 
-// Numbers as lines spell them; what spells none is a SyntaxError.
-const spelled = (word, form) => {
-  if (!form.test(word)) throw new SyntaxError(`no number: ${word}`)
-  return word
-}
-const natural = word => Number(spelled(word, /^\d+$/))
-const integer = word => BigInt(spelled(word, /^-?\d+$/))
+// What a reply or a push has, part by part; what is none is a SyntaxError. No program and no log has more.
 
-const tagged = (time, micro) => ({ time: natural(time), micro: natural(micro) })
-
-function recordOf([kind, origin, time, micro, ...rest]) {
-  const record = { kind, origin: natural(origin), ...tagged(time, micro) }
-  if (kind === "event") return { ...record, input: natural(rest[0]), value: integer(rest[1]) }
-  if (kind === "announce") return { ...record, events: natural(rest[0]), withdrawn: natural(rest[1]) }
-  return record
+/** Reads a number of such a range, in the one way in which lines spell it. */
+const within = (most, least = 0) => word => {
+  const number = /^(0|[1-9]\d{0,15})$/.test(word) ? Number(word) : NaN
+  if (number >= least && number <= most) return number
+  throw new SyntaxError(`no number of ${least} to ${most}: ${shown(`${word}`)}`)
 }
 
+/** Reads a number of 64 bits. */
+function integer(word) {
+  const value = /^(0|-?[1-9]\d{0,18})$/.test(word) && BigInt(word)
+  if (value !== false && BigInt.asIntN(64, value) === value) return value
+  throw new SyntaxError(`no number of 64 bits: ${shown(`${word}`)}`)
+}
+
+const flag = word => within(1)(word) === 1
+
+/** Reads a text of this form. */
+const matching = form => text => {
+  if (typeof text === "string" && form.test(text)) return text
+  throw new SyntaxError("another text is wanted")
+}
+
+const textOf = matching(/./)
+const [MOST_VARS, MOST_PORTS, MOST_PENDING] = [256, 64, 256]
+
+const PARTS = {
+  log: within(1e7), place: within(1e7, 1), events: within(1e7), withdrawn: within(1e7), rows: within(2 ** 20), watched: within(6),
+  origin: within(63), input: within(63), output: within(63), time: within(15_625_000), micro: within(255), index: within(2 ** 32 - 1),
+  count: within(Number.MAX_SAFE_INTEGER), number: within(99, 1), value: integer, frozen: flag, broken: flag,
+  version: within(99, 1), fingerprint: matching(/^[0-9a-f]{64}$/),
+}
+
+/** Reads as many words as the form names parts: `name`, or `name:part` where the part has another name. */
+function fields(form) {
+  const parts = (form.match(/\S+/g) ?? []).map(it => it.split(":"))
+  return words => {
+    if (!Array.isArray(words) || words.length !== parts.length) throw new SyntaxError(`${parts.length} words are wanted`)
+    return Object.fromEntries(parts.map(([name, part = name], at) => [name, PARTS[part](words[at])]))
+  }
+}
+
+/** Reads a list of so many items at most, each by `read`. */
+function listOf(list, most, read) {
+  if (!Array.isArray(list) || list.length > most) throw new SyntaxError(`a list of at most ${most} is wanted`)
+  return list.map(it => read(it))
+}
+
+const [NOTHING, LOG, PLACE, TAG, NUMBER] = ["", "log", "place", "time micro", "number"].map(fields)
+const [COUNTED, HORIZON, ROW, COUNTS] = [
+  "log count", "log time micro", "log time micro output value", "log origin events withdrawn time micro",
+].map(fields)
+
+const RECORDS = {
+  event: fields("origin time micro input value"),
+  withdraw: fields("origin time micro"),
+  announce: fields("origin time micro events withdrawn"),
+}
+
+function recordOf([kind, ...words]) {
+  if (!Object.hasOwn(RECORDS, kind)) throw new SyntaxError("no record")
+  return { kind, ...RECORDS[kind](words) }
+}
+
+/** What a JSON text stands for, in which each number is the text that spells it: a value may have more digits than a number keeps. */
+const jsonOf = text => JSON.parse(text.replace(/([:,[])(-?\d[\d.eE+-]*)/g, '$1"$2"'))
+
+function namesOf(text) {
+  const { vars, inputs, outputs } = jsonOf(text)
+  return new Names({
+    vars: listOf(vars, MOST_VARS, textOf),
+    inputs: listOf(inputs, MOST_PORTS, ([origin, name]) => [PARTS.origin(origin), textOf(name)]),
+    outputs: listOf(outputs, MOST_PORTS, textOf),
+  })
+}
+
+/** What replies have behind their first word. */
 const READERS = {
-  taken: ([place]) => ({ place: natural(place), isNew: true }),
-  known: ([place]) => ({ place: natural(place), isNew: false }),
-  var: ([log, value]) => ({ log: natural(log), value: integer(value) }),
-  vars: ([log, ...values]) => ({ log: natural(log), values: values.map(integer) }),
-  outputs: ([log, count]) => ({ log: natural(log), count: natural(count) }),
-  released: ([log, count]) => ({ log: natural(log), count: natural(count) }),
-  releases: ([log, count, frozen]) => ({ log: natural(log), count: natural(count), frozen: frozen === "1" }),
-  lost: ([log, count]) => ({ log: natural(log), count: natural(count) }),
-  collected: ([log]) => ({ log: natural(log) }),
-  output: ([log, ...row]) => ({ log: natural(log), ...rowOf(row) }),
-  release: ([log, ...row]) => ({ log: natural(log), ...rowOf(row) }),
-  row: row => rowOf(row),
-  board: ([count, frozen]) => ({ count: natural(count), frozen: frozen === "1" }),
-  none: () => null,
-  horizon: ([log, time, micro]) => ({ log: natural(log), ...tagged(time, micro) }),
-  breach: ([log, broken]) => ({ log: natural(log), broken: broken === "1" }),
-  log: ([log, ...record]) => ({ log: natural(log), record: recordOf(record) }),
-  watching: ([count]) => ({ count: natural(count) }),
-  program: ([version, fingerprint]) => ({ version: natural(version), fingerprint }),
-  may: words => ({ may: words.join(" ") }),
-  counts: words => {
-    const [log, origin, events, withdrawn, ...last] = words.map(natural)
-    return { log, origin, events, withdrawn, last: tagged(...last) }
+  taken: words => ({ ...PLACE(words), isNew: true }),
+  known: words => ({ ...PLACE(words), isNew: false }),
+  var: fields("log value"),
+  vars: ([log, ...values]) => ({ ...LOG([log]), values: listOf(values, MOST_VARS, integer) }),
+  outputs: COUNTED,
+  released: COUNTED,
+  lost: COUNTED,
+  releases: fields("log count frozen"),
+  collected: LOG,
+  output: ROW,
+  release: ROW,
+  row: fields("time micro output value"),
+  board: fields("count:rows frozen"),
+  none: (words, asked) => (asked === "row" ? NOTHING : LOG)(words) && null,
+  horizon: HORIZON,
+  breach: fields("log broken"),
+  log: ([log, ...record]) => ({ ...LOG([log]), record: recordOf(record) }),
+  watching: fields("count:watched"),
+  program: fields("version fingerprint"),
+  names: words => namesOf(words.join(" ")),
+  may: words => {
+    if (!/^(\*|read)$/.test(words)) listOf(words, MOST_PORTS, PARTS.origin)
+    return { may: words.join(" ") }
   },
-  reached: ([log, origin, ...tag]) => ({ log: natural(log), origin: natural(origin), ...tagged(...tag) }),
+  counts: words => {
+    const { time, micro, ...counts } = COUNTS(words)
+    return { ...counts, last: { time, micro } }
+  },
+  reached: fields("log origin time micro"),
 }
 
-function rowOf([time, micro, output, value]) {
-  return { ...tagged(time, micro), output: natural(output), value: integer(value) }
+// With what a line is answered, where that is not its own word; each may be refused.
+const ANSWERS = {
+  event: "taken known", withdraw: "taken known", announce: "taken known", collect: "collected", watch: "watching", unwatch: "watching",
+  token: "may", row: "row none", output: "output none", release: "release none", log: "log none",
 }
 
-/** The value that a reply stands for: a `Refused` where it refuses, null for `none`. */
+/** The value that a reply to this line stands for: a `Refused` where it refuses, null for `none`. What is none is an `Ended`. */
 export function replyOf(text, line) {
   const [word, ...words] = text.split(" ")
-  if (word === "refused") return new Refused(natural(words[0]), line)
-  if (word === "names") return new Names(JSON.parse(text.slice("names ".length)))
-  if (!Object.hasOwn(READERS, word)) throw new Ended(`no reply to "${line}": "${text}"`)
-  return READERS[word](words)
+  const [asked] = line.split(" ")
+  try {
+    if (word === "refused") return new Refused(NUMBER(words).number, line)
+    if (!(ANSWERS[asked] ?? asked).split(" ").includes(word)) throw new SyntaxError("of another kind")
+    return READERS[word](words, asked)
+  } catch (error) {
+    throw new Ended(`no reply to "${told(line)}": ${shown(text)}: ${error.message}`)
+  }
 }
 
-const valuesOf = values => Object.fromEntries(Object.entries(values).map(([name, value]) => [name, integer(value)]))
+function valuesOf(values, most) {
+  if (values?.constructor !== Object) throw new SyntaxError("values by name are wanted")
+  return Object.fromEntries(listOf(Object.entries(values), most, ([name, value]) => [name, integer(value)]))
+}
 
 /**
- * A step, or a going back before steps, of its JSON: a value may have more digits than a number keeps. `to` is the last
- * tag that was done after going back: that of a checkpoint, up to sixteen rows before the late tag, or null for the start
- * of the run.
+ * A step, or a going back before steps, of its JSON. `to` is the last tag that was done after going back: that of a
+ * checkpoint, up to sixteen rows before the late tag, or null for the start of the run.
  */
 function executedOf(text) {
-  const { tag, rollback, given, due, changed, outputs, pending } = JSON.parse(text.replace(/":(-?\d+)/g, '":"$1"'))
+  const { tag, rollback, given, due, changed, outputs, pending } = jsonOf(text)
   if (rollback) {
     const { from, to, again } = rollback
-    return { rollback: { from: tagged(...from), to: to && tagged(...to), again: natural(again) } }
+    return { rollback: { from: TAG(from), to: to === null ? null : TAG(to), again: PARTS.count(again) } }
   }
   return {
-    ...tagged(...tag),
-    given: valuesOf(given),
-    due: due.map(({ target, value }) => ({ target, value: integer(value) })),
-    changed: valuesOf(changed),
-    outputs: valuesOf(outputs),
-    pending: natural(pending),
+    ...TAG(tag),
+    given: valuesOf(given, MOST_PORTS),
+    due: listOf(due, MOST_PENDING, ({ target, value }) => ({ target: textOf(target), value: integer(value) })),
+    changed: valuesOf(changed, MOST_VARS),
+    outputs: valuesOf(outputs, MOST_PORTS),
+    pending: within(MOST_PENDING)(pending),
   }
 }
 
 const PUSHES = {
-  log: ([place, ...record]) => ({ place: natural(place), record: recordOf(record) }),
-  released: ([index, ...row]) => ({ index: natural(index), ...rowOf(row) }),
-  frozen: () => ({ frozen: true }),
+  log: ([place, ...record]) => ({ place: PARTS.place(place), record: recordOf(record) }),
+  released: fields("index time micro output value"),
+  frozen: words => ({ ...NOTHING(words), frozen: true }),
   vars: READERS.vars,
-  horizon: READERS.horizon,
-  breach: ([log, ...origins]) => ({ log: natural(log), origins: origins.map(natural) }),
-  step: ([json]) => executedOf(json),
-  skipped: ([count]) => ({ skipped: natural(count) }),
+  horizon: HORIZON,
+  breach: ([log, ...origins]) => ({ ...LOG([log]), origins: listOf(origins, MOST_PORTS, PARTS.origin) }),
+  step: words => executedOf(words.join(" ")),
+  skipped: fields("skipped:count"),
 }
 
 // Of these the newest push stands for those before it.
@@ -333,6 +420,11 @@ export class Client {
   /** When this connection was greeted, and whether it brought a record; null where it was not greeted yet. */
   #greetedAt = null
   #hasBrought = false
+  /** For how long the host owes a connection or the oldest answer, what counts that, and which line was left without one before. */
+  #owed = 0
+  #clock
+  #isConnected = false
+  #late = null
   #timer
   #isOpened = false
   #asked = new Queue()
@@ -359,12 +451,13 @@ export class Client {
   /**
    * @param {string} url where the host's WebSocket is, as "ws://127.0.0.1:7070/ws"
    * @param options `token`: who this is, where the host wants to know; `reconnect`: whether to connect again after a
-   *   lost connection, true where it is left out; `WebSocket`: the class to take where there is none (Node 20: that of
-   *   the package ws)
+   *   lost connection, true where it is left out; `timeout`: for how many milliseconds an answer is waited for, without
+   *   an end where it is left out; `WebSocket`: the class to take where there is none (Node 20: that of the package ws)
    */
-  constructor(url, { token, reconnect = true, WebSocket = globalThis.WebSocket } = {}) {
+  constructor(url, { token, reconnect = true, timeout = null, WebSocket = globalThis.WebSocket } = {}) {
     if (!WebSocket) throw new TypeError("there is no WebSocket here: hand in a class, as { WebSocket } of the package ws")
     this.url = url
+    this.timeout = timeout ?? Infinity
     this.#token = token
     this.#reconnect = reconnect
     this.#WebSocket = WebSocket
@@ -374,13 +467,17 @@ export class Client {
     })
     this.ready.catch(() => {})
     this.#connect()
+    if (this.timeout === Infinity) return
+    const part = Math.min(this.timeout / 8, PART)
+    this.#clock = setInterval(() => this.#wait(part), part)
   }
 
   #connect() {
     const socket = new this.#WebSocket(this.url)
     this.#socket = socket
+    this.#owed = 0
     socket.onopen = () => this.#socket === socket && this.#opened()
-    socket.onmessage = event => this.#socket === socket && this.#hear(String(event.data))
+    socket.onmessage = event => this.#socket === socket && this.#hear(event.data)
     socket.onclose = () => this.#socket === socket && this.#closed()
     socket.onerror = () => {}
   }
@@ -388,6 +485,8 @@ export class Client {
   /** Says who it is, and asks for the names; then watches on from where it was, and sends again what was not answered. */
   #opened() {
     const socket = this.#socket
+    this.#isConnected = true
+    this.#owed = 0
     this.connections += 1
     const lines = ["names", "program"]
     if (this.#token !== undefined) lines.unshift(`token ${this.#token}`)
@@ -397,14 +496,14 @@ export class Client {
     this.#send(opening)
     Promise.all(opening.map(it => it.answer)).then(answers => {
       if (this.#socket === socket && this.state !== "closed") this.#greeted(...answers.slice(-2))
-    }).catch(error => this.#finish(error instanceof Refused ? error : endBy(error, "names, program")))
+    }).catch(error => this.#finish(error))
   }
 
   /** Goes on where it was, unless the host has another program than before. */
   #greeted(names, program) {
-    const fingerprint = program?.fingerprint
-    if (!(names instanceof Names) || !fingerprint) throw new Ended("the host tells no names and program")
+    const { fingerprint } = program
     this.#greetedAt = performance.now()
+    if (this.#late?.isOfOpening) this.#late = null
     this.#fingerprint ??= fingerprint
     if (this.#fingerprint !== fingerprint) {
       return this.#finish(new Ended(`the host has another program now, ${fingerprint}: it had ${this.#fingerprint}`))
@@ -439,6 +538,8 @@ export class Client {
   #closed() {
     this.#isOpened = false
     if (this.state === "closed") return
+    this.#socket = null
+    this.#isConnected = false
     if (!this.#reconnect) return this.#finish(new Ended("the connection was lost"))
     const hasLasted = this.#greetedAt !== null && performance.now() - this.#greetedAt >= LASTED
     if (hasLasted || this.#hasBrought) this.#pause = FIRST_PAUSE
@@ -447,6 +548,24 @@ export class Client {
     this.#turn("connecting")
     this.#timer = setTimeout(() => this.#connect(), this.#pause)
     this.#pause = Math.min(2 * this.#pause, LONGEST_PAUSE)
+  }
+
+  /**
+   * Counts for how long the host says nothing that is waited for, part by part, so that neither a process that stood still nor
+   * slow timers count as that. Where it is too long the connection is given up; for the second time without an answer the client ends.
+   */
+  #wait(part) {
+    const isOwed = this.#socket && (!this.#isConnected || this.#asked.length)
+    this.#owed = isOwed ? this.#owed + part : 0
+    if (this.#owed <= this.timeout) return
+    const oldest = this.#isConnected ? this.#asked.first : null
+    if (!this.#reconnect || (oldest && this.#late)) {
+      const missing = oldest ? `reply to "${told(oldest.line)}"` : "connection"
+      return this.#finish(new Ended(`no ${missing} within ${this.timeout} milliseconds`))
+    }
+    this.#late ??= oldest
+    this.#socket.close()
+    this.#closed()
   }
 
   #turn(state) {
@@ -467,6 +586,7 @@ export class Client {
 
   #finish(error) {
     clearTimeout(this.#timer)
+    clearInterval(this.#clock)
     this.#isOpened = false
     this.error ??= error
     this.#turn("closed")
@@ -474,29 +594,33 @@ export class Client {
     for (const asked of this.#asked.take()) asked.reject(error)
     for (const watch of this.#watches.values()) watch.end()
     this.#watches.clear()
-    this.#socket.close()
+    this.#socket?.close()
   }
 
   #hear(message) {
+    if (typeof message !== "string" || message.length > MOST_HEARD) {
+      return this.#finish(new Ended(`the host says what is no text of at most ${MOST_HEARD} letters`))
+    }
     for (const text of message.split("\n")) {
       if (this.state === "closed") return
       if (text.startsWith("* ")) this.#pushed(text.slice(2))
-      else if (text) this.#answered(text)
+      else this.#answered(text)
     }
   }
 
   #answered(text) {
     const asked = this.#asked.shift()
-    if (!asked) return this.#finish(new Ended(`a reply that nobody waits for: "${text}"`))
+    if (!asked) return this.#finish(new Ended(`a reply that nobody waits for: ${shown(text)}`))
+    this.#owed = 0
+    if (asked === this.#late) this.#late = null
     try {
       const value = replyOf(text, asked.line)
       this.#hasBrought ||= value?.isNew === true
       if (value instanceof Refused) asked.reject(value)
       else asked.resolve(value)
     } catch (error) {
-      const end = endBy(error, text)
-      asked.reject(end)
-      this.#finish(end)
+      asked.reject(error)
+      this.#finish(error)
     }
   }
 
@@ -508,7 +632,11 @@ export class Client {
     if (!value) return
     if (kind === "vars") value.values.forEach((it, at) => (this.vars[this.names.vars[at] ?? at] = it))
     this.#hasBrought ||= kind === "log" || kind === "released"
-    this.#watches.get(SUBJECT_OF[kind] ?? kind)?.push(value)
+    const watch = this.#watches.get(SUBJECT_OF[kind] ?? kind)
+    if (!watch) return
+    // What is pushed may be long, and an answer waits behind it.
+    this.#owed = 0
+    watch.push(value)
   }
 
   /** What a push says; where it does not read, the client closes. */

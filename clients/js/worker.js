@@ -60,9 +60,9 @@ class Served {
   #notes
   #isTelling = false
 
-  async begin({ url, token, engine, webSocketFrom, smooth, ...options }) {
+  async begin({ url, token, timeout, engine, webSocketFrom, smooth, ...options }) {
     const WebSocket = webSocketFrom ? (await import(webSocketFrom)).default : globalThis.WebSocket
-    this.#client = new Client(url, { token, WebSocket })
+    this.#client = new Client(url, { token, timeout, WebSocket })
     this.#notes = smooth && new Notes(Object.keys(smooth))
     const replica = new Replica(this.#client, { ...options, engine: await Engine.load(engine), smooth: this.#notes })
     this.#replica = replica

@@ -4,6 +4,7 @@
 // `stop()` and `start()`. Where it has `tokens`, the host has a file of these lines.
 
 import { Announcer, Ended, Refused } from "../warpd.js"
+import { NO_NAMES, NO_PROGRAMS, NO_PUSHES, NO_REPLIES, lying, saying } from "./lies.js"
 
 /** @param {number} milliseconds */
 const sleep = milliseconds => new Promise(resolve => setTimeout(resolve, milliseconds))
@@ -239,3 +240,74 @@ hosted("a token says for whom a client may send", async ({ assert, client, conne
   await assert.rejects(other.ready)
   other.close()
 }, { tokens: "alpha 0\nreader read\n", token: "alpha" })
+
+/**
+ * @param {Given["connect"]} connect
+ * @param {(line: string) => unknown} answerTo
+ * @param {number | null} [timeout]
+ */
+const overLies = (connect, answerTo, timeout) => connect({ WebSocket: lying(answerTo), timeout, reconnect: false })
+
+/** @param {any} error */
+const isEnd = error => error instanceof Ended && error.message.length < 700
+
+hosted("a host that lies in a reply is not believed: the client ends", async ({ assert, connect }) => {
+  for (const [line, replies] of Object.entries(NO_REPLIES)) {
+    for (const reply of replies) {
+      const it = overLies(connect, said => (said === line ? reply : saying(undefined)(said)))
+      await it.ready
+      const answers = [it.ask(line), it.ask("horizon")]
+      for (const answer of answers) await assert.rejects(answer, isEnd, `${line}: ${reply.slice(0, 99)}`)
+      assert.equal(it.state, "closed")
+    }
+  }
+})
+
+hosted("a host that lies in its greeting, in a push, or in another form than a short text is not believed", async ({ assert, connect }) => {
+  for (const [line, replies] of Object.entries({ names: NO_NAMES, program: NO_PROGRAMS })) {
+    for (const reply of replies) {
+      await assert.rejects(overLies(connect, said => (said === line ? reply : saying(undefined)(said))).ready, isEnd, reply.slice(0, 99))
+    }
+  }
+  for (const said of [...NO_PUSHES.map(it => `* ${it}`), new Uint8Array(9), `* rolled ${"9".repeat(1_048_577)}`]) {
+    await assert.rejects(overLies(connect, saying(said)).var(0), isEnd, `${said}`.slice(0, 99))
+  }
+})
+
+hosted("of two answers to one line the first counts, and the second ends the client", async ({ assert, connect }) => {
+  for (const [first, more] of [["var 1 1", "\nvar 1 2"], ["var 1 1", "\ntaken 1".repeat(50_000)], ["var 1 1", "\n"]]) {
+    const it = overLies(connect, saying(first + more))
+    assert.deepEqual(await it.var(0), { log: 1, value: 1n })
+    await assert.rejects(it.lost(), isEnd)
+    assert.equal(it.state, "closed")
+  }
+})
+
+hosted("a host that says nothing leaves no promise open", async ({ assert, connect }) => {
+  /** @param {any} error */
+  const isLate = error => isEnd(error) && error.message.includes("within 40 milliseconds")
+  for (const answerTo of [saying(undefined), () => undefined]) {
+    await assert.rejects(overLies(connect, answerTo, 40).var(0), isLate)
+    // Where connections are made again, a second one has its time too.
+    const Lying = lying(answerTo)
+    const it = connect({ WebSocket: Lying, timeout: 40 })
+    await assert.rejects(it.var(0), isLate)
+    assert.deepEqual([Lying.made, it.connections, it.state], [2, 2, "closed"])
+  }
+})
+
+hosted("an honest host is believed with a short time, however long nothing is asked", async ({ assert, client, connect }) => {
+  const short = connect({ timeout: 2_000 })
+  const patient = connect({ timeout: null })
+  /** @type {number[]} */
+  const places = []
+  await Promise.all([short.ready, patient.ready])
+  assert.deepEqual([client.timeout, short.timeout, patient.timeout], [Infinity, 2_000, Infinity])
+  await short.watch("log", ({ place }) => places.push(place)).started
+  await sleep(2_500)
+  assert.deepEqual(await short.event("r.a", { time: 5, value: -3 }), { place: 1, isNew: true })
+  assert.deepEqual(await patient.var(0), { log: 1, value: -3n })
+  await until(() => places.length === 1)
+  assert.equal(short.connections, 1)
+  for (const it of [short, patient]) it.close()
+})

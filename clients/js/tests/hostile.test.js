@@ -42,13 +42,13 @@ class Said {
 }
 
 const GREETING = {
-  names: 'names {"vars":["r.x"],"inputs":[],"outputs":[]}', program: "program 1 abc", watch: "watching 1", horizon: "horizon 0 0 0",
+  names: 'names {"vars":["r.x"],"inputs":[],"outputs":[]}', program: `program 1 ${"0123456789abcdef".repeat(4)}`, watch: "watching 1", horizon: "horizon 0 0 0",
 }
 
 /**
  * A client whose host greets it as `answers` has it, once it is over with that.
  * @param {Record<string, string>} answers
- * @param {{ reconnect?: boolean }} options
+ * @param {import("../warpd.js").ClientOptions} options
  */
 async function greeted(answers = GREETING, options = {}) {
   Said.made = []
@@ -95,7 +95,7 @@ test("a push that does not read ends the client with its words, and what stands 
     client.watch("vars", it => pushed.push(it))
     const asked = client.horizon()
     socket.say(`* ${push}`, "* vars 1 5")
-    ended(client, socket, `"* ${push}"`)
+    ended(client, socket, JSON.stringify(`* ${push}`))
     await assert.rejects(asked, Ended)
     assert.deepEqual(pushed, [], push)
   }
@@ -108,9 +108,9 @@ test("a reply that does not read ends the client, and whoever waits for it is to
   ]
   for (const reply of unread) {
     const { client, socket } = await greeted({ ...GREETING, horizon: reply })
-    await assert.rejects(client.horizon(), error => error instanceof Ended && error.message.includes(reply), reply)
-    ended(client, socket, reply)
-    assert.throws(() => replyOf(reply, "horizon"), Error, reply)
+    await assert.rejects(client.horizon(), error => error instanceof Ended && error.message.includes(JSON.stringify(reply)), reply)
+    ended(client, socket, JSON.stringify(reply))
+    assert.throws(() => replyOf(reply, "horizon"), Ended, reply)
   }
 })
 
@@ -128,9 +128,44 @@ test("a greeting that is none ends the client", async () => {
     { names: 'names {"inputs":5}', program },
   ]) {
     const { client, socket } = await greeted(answers)
-    ended(client, socket, "the host")
+    ended(client, socket, "no reply to \"")
     await assert.rejects(client.ready, Ended)
   }
+})
+
+test("what is told of a lie is short, has its signs spelled, and no token", async () => {
+  const { client, socket } = await greeted({ ...GREETING, horizon: `\u001b[2J${"x".repeat(1_000_000)}` })
+  await assert.rejects(client.horizon(), Ended)
+  ended(client, socket, `no reply to "horizon": "\\u001b[2J${"x".repeat(196)}..": of another kind`)
+  for (const answer of ["refused 13", "taken 1"]) {
+    const { client, socket } = await greeted({ ...GREETING, token: answer }, { token: "secret" })
+    await assert.rejects(client.ready, error => !error.message.includes("secret") && error.message.includes("token .."))
+    assert.equal(client.state, "closed", answer)
+    assert.ok(socket.isClosed, answer)
+  }
+})
+
+test("a connection that says nothing is given up, and made again; what is pushed and watched is a sign of it", async () => {
+  const { client, socket } = await greeted(GREETING, { timeout: 400 })
+  /** @type {unknown[]} */
+  const pushed = []
+  client.watch("released", it => pushed.push(it))
+  const asked = client.var(0)
+  for (let index = 0; index < 12; index += 1) {
+    await new Promise(resolve => setTimeout(resolve, 100))
+    socket.say(`* released ${index} 5 0 0 1`)
+    assert.equal(client.state, "open")
+  }
+  Said.answers = { ...GREETING, var: "var 12 7" }
+  assert.deepEqual(await asked, { log: 12, value: 7n })
+  assert.deepEqual([pushed.length, client.connections, socket.isClosed], [12, 2, true])
+  // It was answered in between, so that the next silence is a first one again.
+  Said.answers = GREETING
+  const late = client.var(0)
+  while (client.connections < 3) await new Promise(resolve => setTimeout(resolve, 20))
+  assert.equal(client.state, "open")
+  await assert.rejects(late, Ended)
+  client.close()
 })
 
 test("what a callback throws is uncaught, and all that the host says is read", async t => {

@@ -5,7 +5,7 @@ use http::HeaderValue;
 /// What the page may do in a browser: its own style and script alone, told by their SHA-256, and connect to its host.
 const POLICY: &str = "\
 default-src 'none'; \
-script-src 'sha256-KbkJvm5Lm12zY8fg+x2ir4jFOwalui8uD2TSJ8Nk2dc='; \
+script-src 'sha256-rAO98Kvhy7IzcsMkNFPhzcWU3MnCqBRl5fFHRVv2dWU='; \
 style-src 'sha256-w6wrpSjQQo2ITNrYMfX6Z7+uynafgFVJ8u9XhCCqJFo='; \
 connect-src 'self'; \
 img-src data:; \
@@ -114,857 +114,954 @@ it was, the replica goes on from there) or more (timers and actions may lie behi
 <p id="rights" role="status"></p>
 </section>
 </main>
-<script type="module">const MEANINGS = {
-1: "the line is none, or out of range",
-2: "the program has no such origin",
+<script type="module">const MEANINGS={
+1:"the line is none, or out of range",
+2:"the program has no such origin",
 3: "past the program's stop",
-4: "the program has no such input",
-5: "the input belongs to another origin",
-6: "the program has no such variable",
-7: "the log is full",
-8: "no memory",
-9: "the line is too long",
-10: "busy: too many lines of this session wait",
-11: "there is no board: only a server has one",
-13: "this client may not send that",
-14: "the journal cannot be written",
+4:"the program has no such input",
+5:"the input belongs to another origin",
+6:"the program has no such variable",
+7:"the log is full",
+8:"no memory",
+9:"the line is too long",
+10:"busy: too many lines of this session wait",
+11:"there is no board: only a server has one",
+13:"this client may not send that",
+14:"the journal cannot be written",
 }
-const FIRST_PAUSE = 100
-const LONGEST_PAUSE = 5_000
-const LASTED = 1_000
-const MOST_MESSAGE = 16_000
-class Queue {
+const FIRST_PAUSE=100
+const LONGEST_PAUSE=5_000
+const LASTED=1_000
+const MOST_MESSAGE=16_000
+const MOST_HEARD=2 ** 20
+const SHOWN=200
+const PART=1_000
+class Queue{
 #items
-#first = 0
-constructor(items = []) {
-this.#items = items
+#first=0
+constructor(items=[]){
+this.#items=items
 }
-get length() {
+get length(){
 return this.#items.length - this.#first
 }
-push(item) {
+get first(){
+return this.#items[this.#first]
+}
+push(item){
 this.#items.push(item)
 }
-shift() {
-const item = this.#items[this.#first]
-if (this.length) this.#first += 1
-if (2 * this.#first >= this.#items.length) {
-this.#items.splice(0, this.#first)
-this.#first = 0
+shift(){
+const item=this.first
+if(this.length)this.#first +=1
+if(2 * this.#first>=this.#items.length){
+this.#items.splice(0,this.#first)
+this.#first=0
 }
 return item
 }
-take() {
-const all = this.#items.splice(0).slice(this.#first)
-this.#first = 0
+take(){
+const all=this.#items.splice(0).slice(this.#first)
+this.#first=0
 return all
 }
 }
-class Refused extends Error {
-constructor(number, line) {
-const meaning = MEANINGS[number] ?? "unknown"
-super(`refused ${number}: ${meaning}: ${line}`)
-this.name = "Refused"
-this.number = number
-this.meaning = meaning
-this.line = line
+const shown = text => JSON.stringify(text.length > SHOWN ? `${text.slice(0, SHOWN)}..` : text)
+const told = line => line.replace(/^token .*/, "token ..")
+class Refused extends Error{
+constructor(number,line){
+const meaning=MEANINGS[number]??"unknown"
+super(`refused ${number}: ${meaning}: ${told(line)}`)
+this.name="Refused"
+this.number=number
+this.meaning=meaning
+this.line=line
 }
 }
-class Ended extends Error {
-constructor(message) {
+class Ended extends Error{
+constructor(message){
 super(message)
-this.name = "Ended"
+this.name="Ended"
 }
 }
-const endBy = (error, text) => error instanceof Ended ? error : new Ended(`the host says what does not read: "${text}": ${error.message}`)
-function callBack(callback, value) {
-try {
+const endBy = (error, text) => error instanceof Ended ? error : new Ended(`the host says what does not read: ${shown(text)}: ${error.message}`)
+function callBack(callback,value){
+try{
 callback?.(value)
-} catch (error) {
-queueMicrotask(() => {
+}catch(error){
+queueMicrotask(()=>{
 throw error
 })
 }
 }
-class Names {
-constructor({ vars = [], inputs = [], outputs = [] } = {}) {
-this.vars = vars
-this.inputs = inputs.map(([origin, name]) => ({ origin, name }))
-this.outputs = outputs
+class Names{
+constructor({vars=[],inputs=[],outputs=[]}={}){
+this.vars=vars
+this.inputs=inputs.map(([origin,name])=>({origin,name}))
+this.outputs=outputs
 }
-owner(input) {
-const found = this.inputs[input]
+owner(input){
+const found=this.inputs[input]
 if (!found) throw new RangeError(`the program has no input ${input}: say whose event it is, by "origin"`)
 return found.origin
 }
 }
-function number(kind, name, names) {
-if (typeof name === "number") return name
-const at = names.indexOf(name)
+function number(kind,name,names){
+if(typeof name==="number")return name
+const at=names.indexOf(name)
 if (at < 0) throw new RangeError(`no ${kind} is called "${name}"; there are: ${names.join(", ")}`)
 return at
 }
-const spelled = (word, form) => {
-if (!form.test(word)) throw new SyntaxError(`no number: ${word}`)
-return word
+const within=(most,least=0)=>word=>{
+const number = /^(0|[1-9]\d{0,15})$/.test(word) ? Number(word) : NaN
+if(number>=least&&number<=most)return number
+throw new SyntaxError(`no number of ${least} to ${most}: ${shown(`${word}`)}`)
 }
-const natural = word => Number(spelled(word, /^\d+$/))
-const integer = word => BigInt(spelled(word, /^-?\d+$/))
-const tagged = (time, micro) => ({ time: natural(time), micro: natural(micro) })
-function recordOf([kind, origin, time, micro, ...rest]) {
-const record = { kind, origin: natural(origin), ...tagged(time, micro) }
-if (kind === "event") return { ...record, input: natural(rest[0]), value: integer(rest[1]) }
-if (kind === "announce") return { ...record, events: natural(rest[0]), withdrawn: natural(rest[1]) }
-return record
+function integer(word){
+const value = /^(0|-?[1-9]\d{0,18})$/.test(word) && BigInt(word)
+if(value!==false&&BigInt.asIntN(64,value)===value)return value
+throw new SyntaxError(`no number of 64 bits: ${shown(`${word}`)}`)
 }
-const READERS = {
-taken: ([place]) => ({ place: natural(place), isNew: true }),
-known: ([place]) => ({ place: natural(place), isNew: false }),
-var: ([log, value]) => ({ log: natural(log), value: integer(value) }),
-vars: ([log, ...values]) => ({ log: natural(log), values: values.map(integer) }),
-outputs: ([log, count]) => ({ log: natural(log), count: natural(count) }),
-released: ([log, count]) => ({ log: natural(log), count: natural(count) }),
-releases: ([log, count, frozen]) => ({ log: natural(log), count: natural(count), frozen: frozen === "1" }),
-lost: ([log, count]) => ({ log: natural(log), count: natural(count) }),
-collected: ([log]) => ({ log: natural(log) }),
-output: ([log, ...row]) => ({ log: natural(log), ...rowOf(row) }),
-release: ([log, ...row]) => ({ log: natural(log), ...rowOf(row) }),
-row: row => rowOf(row),
-board: ([count, frozen]) => ({ count: natural(count), frozen: frozen === "1" }),
-none: () => null,
-horizon: ([log, time, micro]) => ({ log: natural(log), ...tagged(time, micro) }),
-breach: ([log, broken]) => ({ log: natural(log), broken: broken === "1" }),
-log: ([log, ...record]) => ({ log: natural(log), record: recordOf(record) }),
-watching: ([count]) => ({ count: natural(count) }),
-program: ([version, fingerprint]) => ({ version: natural(version), fingerprint }),
-may: words => ({ may: words.join(" ") }),
-counts: words => {
-const [log, origin, events, withdrawn, ...last] = words.map(natural)
-return { log, origin, events, withdrawn, last: tagged(...last) }
+const flag=word=>within(1)(word)===1
+const matching=form=>text=>{
+if(typeof text==="string"&&form.test(text))return text
+throw new SyntaxError("another text is wanted")
+}
+const textOf = matching(/./)
+const [MOST_VARS,MOST_PORTS,MOST_PENDING]=[256,64,256]
+const PARTS={
+log:within(1e7),place:within(1e7,1),events:within(1e7),withdrawn:within(1e7),rows:within(2 ** 20),watched:within(6),
+origin:within(63),input:within(63),output:within(63),time:within(15_625_000),micro:within(255),index:within(2 ** 32 - 1),
+count:within(Number.MAX_SAFE_INTEGER),number:within(99,1),value:integer,frozen:flag,broken:flag,
+version: within(99, 1), fingerprint: matching(/^[0-9a-f]{64}$/),
+}
+function fields(form){
+const parts = (form.match(/\S+/g) ?? []).map(it => it.split(":"))
+return words=>{
+if (!Array.isArray(words) || words.length !== parts.length) throw new SyntaxError(`${parts.length} words are wanted`)
+return Object.fromEntries(parts.map(([name,part=name],at)=>[name,PARTS[part](words[at])]))
+}
+}
+function listOf(list,most,read){
+if (!Array.isArray(list) || list.length > most) throw new SyntaxError(`a list of at most ${most} is wanted`)
+return list.map(it=>read(it))
+}
+const [NOTHING,LOG,PLACE,TAG,NUMBER]=["","log","place","time micro","number"].map(fields)
+const [COUNTED,HORIZON,ROW,COUNTS]=[
+"log count","log time micro","log time micro output value","log origin events withdrawn time micro",
+].map(fields)
+const RECORDS={
+event:fields("origin time micro input value"),
+withdraw:fields("origin time micro"),
+announce:fields("origin time micro events withdrawn"),
+}
+function recordOf([kind,...words]){
+if(!Object.hasOwn(RECORDS,kind))throw new SyntaxError("no record")
+return{kind,...RECORDS[kind](words)}
+}
+const jsonOf = text => JSON.parse(text.replace(/([:,[])(-?\d[\d.eE+-]*)/g, '$1"$2"'))
+function namesOf(text){
+const{vars,inputs,outputs}=jsonOf(text)
+return new Names({
+vars:listOf(vars,MOST_VARS,textOf),
+inputs:listOf(inputs,MOST_PORTS,([origin,name])=>[PARTS.origin(origin),textOf(name)]),
+outputs:listOf(outputs,MOST_PORTS,textOf),
+})
+}
+const READERS={
+taken:words=>({...PLACE(words),isNew:true}),
+known:words=>({...PLACE(words),isNew:false}),
+var:fields("log value"),
+vars:([log,...values])=>({...LOG([log]),values:listOf(values,MOST_VARS,integer)}),
+outputs:COUNTED,
+released:COUNTED,
+lost:COUNTED,
+releases:fields("log count frozen"),
+collected:LOG,
+output:ROW,
+release:ROW,
+row:fields("time micro output value"),
+board:fields("count:rows frozen"),
+none:(words,asked)=>(asked==="row"?NOTHING:LOG)(words)&&null,
+horizon:HORIZON,
+breach:fields("log broken"),
+log:([log,...record])=>({...LOG([log]),record:recordOf(record)}),
+watching:fields("count:watched"),
+program:fields("version fingerprint"),
+names:words=>namesOf(words.join(" ")),
+may:words=>{
+if (!/^(\*|read)$/.test(words)) listOf(words, MOST_PORTS, PARTS.origin)
+return{may:words.join(" ")}
 },
-reached: ([log, origin, ...tag]) => ({ log: natural(log), origin: natural(origin), ...tagged(...tag) }),
+counts:words=>{
+const{time,micro,...counts}=COUNTS(words)
+return{...counts,last:{time,micro}}
+},
+reached:fields("log origin time micro"),
 }
-function rowOf([time, micro, output, value]) {
-return { ...tagged(time, micro), output: natural(output), value: integer(value) }
+const ANSWERS={
+event:"taken known",withdraw:"taken known",announce:"taken known",collect:"collected",watch:"watching",unwatch:"watching",
+token:"may",row:"row none",output:"output none",release:"release none",log:"log none",
 }
-function replyOf(text, line) {
-const [word, ...words] = text.split(" ")
-if (word === "refused") return new Refused(natural(words[0]), line)
-if (word === "names") return new Names(JSON.parse(text.slice("names ".length)))
-if (!Object.hasOwn(READERS, word)) throw new Ended(`no reply to "${line}": "${text}"`)
-return READERS[word](words)
-}
-const valuesOf = values => Object.fromEntries(Object.entries(values).map(([name, value]) => [name, integer(value)]))
-function executedOf(text) {
-const { tag, rollback, given, due, changed, outputs, pending } = JSON.parse(text.replace(/":(-?\d+)/g, '":"$1"'))
-if (rollback) {
-const { from, to, again } = rollback
-return { rollback: { from: tagged(...from), to: to && tagged(...to), again: natural(again) } }
-}
-return {
-...tagged(...tag),
-given: valuesOf(given),
-due: due.map(({ target, value }) => ({ target, value: integer(value) })),
-changed: valuesOf(changed),
-outputs: valuesOf(outputs),
-pending: natural(pending),
+function replyOf(text,line){
+const [word,...words]=text.split(" ")
+const [asked]=line.split(" ")
+try{
+if(word==="refused")return new Refused(NUMBER(words).number,line)
+if(!(ANSWERS[asked]??asked).split(" ").includes(word))throw new SyntaxError("of another kind")
+return READERS[word](words,asked)
+}catch(error){
+throw new Ended(`no reply to "${told(line)}": ${shown(text)}: ${error.message}`)
 }
 }
-const PUSHES = {
-log: ([place, ...record]) => ({ place: natural(place), record: recordOf(record) }),
-released: ([index, ...row]) => ({ index: natural(index), ...rowOf(row) }),
-frozen: () => ({ frozen: true }),
-vars: READERS.vars,
-horizon: READERS.horizon,
-breach: ([log, ...origins]) => ({ log: natural(log), origins: origins.map(natural) }),
-step: ([json]) => executedOf(json),
-skipped: ([count]) => ({ skipped: natural(count) }),
+function valuesOf(values,most){
+if(values?.constructor!==Object)throw new SyntaxError("values by name are wanted")
+return Object.fromEntries(listOf(Object.entries(values),most,([name,value])=>[name,integer(value)]))
 }
-const STATES = new Set(["vars", "horizon", "breach"])
-const SUBJECT_OF = { frozen: "released", step: "steps", skipped: "steps" }
-const SUBJECTS = [...new Set(Object.keys(PUSHES).map(it => SUBJECT_OF[it] ?? it))]
-class Watch {
+function executedOf(text){
+const{tag,rollback,given,due,changed,outputs,pending}=jsonOf(text)
+if(rollback){
+const{from,to,again}=rollback
+return{rollback:{from:TAG(from),to:to===null?null:TAG(to),again:PARTS.count(again)}}
+}
+return{
+...TAG(tag),
+given:valuesOf(given,MOST_PORTS),
+due:listOf(due,MOST_PENDING,({target,value})=>({target:textOf(target),value:integer(value)})),
+changed:valuesOf(changed,MOST_VARS),
+outputs:valuesOf(outputs,MOST_PORTS),
+pending:within(MOST_PENDING)(pending),
+}
+}
+const PUSHES={
+log:([place,...record])=>({place:PARTS.place(place),record:recordOf(record)}),
+released:fields("index time micro output value"),
+frozen:words=>({...NOTHING(words),frozen:true}),
+vars:READERS.vars,
+horizon:HORIZON,
+breach:([log,...origins])=>({...LOG([log]),origins:listOf(origins,MOST_PORTS,PARTS.origin)}),
+step:words=>executedOf(words.join(" ")),
+skipped:fields("skipped:count"),
+}
+const STATES=new Set(["vars","horizon","breach"])
+const SUBJECT_OF={frozen:"released",step:"steps",skipped:"steps"}
+const SUBJECTS=[...new Set(Object.keys(PUSHES).map(it=>SUBJECT_OF[it]??it))]
+class Watch{
 #client
 #callback
-#waiting = new Queue()
-#wanted = new Queue()
-#isOver = false
-constructor(client, what, next, callback) {
-this.what = what
-this.next = next
-this.#client = client
-this.#callback = callback
+#waiting=new Queue()
+#wanted=new Queue()
+#isOver=false
+constructor(client,what,next,callback){
+this.what=what
+this.next=next
+this.#client=client
+this.#callback=callback
 }
-get line() {
+get line(){
 return this.next === null ? `watch ${this.what}` : `watch ${this.what} ${this.next}`
 }
-push(value) {
-const at = value.place ?? value.index
-if (at !== undefined) this.next = at + 1
-callBack(this.#callback, value)
-const wanted = this.#wanted.shift()
-if (wanted) wanted({ value, done: false })
-else if (!this.#callback) this.#keep(value)
+push(value){
+const at=value.place??value.index
+if(at!==undefined)this.next=at + 1
+callBack(this.#callback,value)
+const wanted=this.#wanted.shift()
+if(wanted)wanted({value,done:false})
+else if(!this.#callback)this.#keep(value)
 }
-#keep(value) {
-if (STATES.has(this.what)) this.#waiting.take()
+#keep(value){
+if(STATES.has(this.what))this.#waiting.take()
 this.#waiting.push(value)
 }
-async stop() {
-if (this.#isOver) return
+async stop(){
+if(this.#isOver)return
 this.end()
 await this.#client.unwatch(this)
 }
-end() {
-this.#isOver = true
-for (const wanted of this.#wanted.take()) wanted({ value: undefined, done: true })
+end(){
+this.#isOver=true
+for(const wanted of this.#wanted.take())wanted({value:undefined,done:true})
 }
-[Symbol.asyncIterator]() {
-return {
-next: () => {
-if (this.#waiting.length) return Promise.resolve({ value: this.#waiting.shift(), done: false })
-if (this.#isOver) return Promise.resolve({ value: undefined, done: true })
-return new Promise(resolve => this.#wanted.push(resolve))
+[Symbol.asyncIterator](){
+return{
+next:()=>{
+if(this.#waiting.length)return Promise.resolve({value:this.#waiting.shift(),done:false})
+if(this.#isOver)return Promise.resolve({value:undefined,done:true})
+return new Promise(resolve=>this.#wanted.push(resolve))
 },
-return: async () => {
+return:async()=>{
 await this.stop()
-return { value: undefined, done: true }
+return{value:undefined,done:true}
 },
 }
 }
 }
-class Asked {
-constructor(line, watch = null) {
-this.line = line
-this.watch = watch
-this.answer = new Promise((resolve, reject) => Object.assign(this, { resolve, reject }))
-this.answer.catch(() => {})
+class Asked{
+constructor(line,watch=null){
+this.line=line
+this.watch=watch
+this.answer=new Promise((resolve,reject)=>Object.assign(this,{resolve,reject}))
+this.answer.catch(()=>{})
 }
 }
-class Client {
+class Client{
 #WebSocket
 #socket
 #token
 #reconnect
-#pause = FIRST_PAUSE
-#greetedAt = null
-#hasBrought = false
+#pause=FIRST_PAUSE
+#greetedAt=null
+#hasBrought=false
+#owed=0
+#clock
+#isConnected=false
+#late=null
 #timer
-#isOpened = false
-#asked = new Queue()
-#watches = new Map()
+#isOpened=false
+#asked=new Queue()
+#watches=new Map()
 #isReady
 #isNotReady
 #fingerprint
-#reopened = new Set()
-vars = {}
-names = new Names()
-state = "connecting"
-onstate = null
-error = null
-connections = 0
+#reopened=new Set()
+vars={}
+names=new Names()
+state="connecting"
+onstate=null
+error=null
+connections=0
 ready
-constructor(url, { token, reconnect = true, WebSocket = globalThis.WebSocket } = {}) {
-if (!WebSocket) throw new TypeError("there is no WebSocket here: hand in a class, as { WebSocket } of the package ws")
-this.url = url
-this.#token = token
-this.#reconnect = reconnect
-this.#WebSocket = WebSocket
-this.ready = new Promise((resolve, reject) => {
-this.#isReady = resolve
-this.#isNotReady = reject
+constructor(url,{token,reconnect=true,timeout=null,WebSocket=globalThis.WebSocket}={}){
+if(!WebSocket)throw new TypeError("there is no WebSocket here: hand in a class, as { WebSocket } of the package ws")
+this.url=url
+this.timeout=timeout??Infinity
+this.#token=token
+this.#reconnect=reconnect
+this.#WebSocket=WebSocket
+this.ready=new Promise((resolve,reject)=>{
+this.#isReady=resolve
+this.#isNotReady=reject
 })
-this.ready.catch(() => {})
+this.ready.catch(()=>{})
 this.#connect()
+if(this.timeout===Infinity)return
+const part = Math.min(this.timeout / 8, PART)
+this.#clock=setInterval(()=>this.#wait(part),part)
 }
-#connect() {
-const socket = new this.#WebSocket(this.url)
-this.#socket = socket
-socket.onopen = () => this.#socket === socket && this.#opened()
-socket.onmessage = event => this.#socket === socket && this.#hear(String(event.data))
-socket.onclose = () => this.#socket === socket && this.#closed()
-socket.onerror = () => {}
+#connect(){
+const socket=new this.#WebSocket(this.url)
+this.#socket=socket
+this.#owed=0
+socket.onopen=()=>this.#socket===socket&&this.#opened()
+socket.onmessage=event=>this.#socket===socket&&this.#hear(event.data)
+socket.onclose=()=>this.#socket===socket&&this.#closed()
+socket.onerror=()=>{}
 }
-#opened() {
-const socket = this.#socket
-this.connections += 1
-const lines = ["names", "program"]
+#opened(){
+const socket=this.#socket
+this.#isConnected=true
+this.#owed=0
+this.connections +=1
+const lines=["names","program"]
 if (this.#token !== undefined) lines.unshift(`token ${this.#token}`)
-const opening = lines.map(line => new Asked(line))
-for (const asked of opening) asked.isOfOpening = true
-this.#asked = new Queue([...opening, ...this.#asked.take().filter(it => !it.isOfOpening)])
+const opening=lines.map(line=>new Asked(line))
+for(const asked of opening)asked.isOfOpening=true
+this.#asked=new Queue([...opening,...this.#asked.take().filter(it=>!it.isOfOpening)])
 this.#send(opening)
-Promise.all(opening.map(it => it.answer)).then(answers => {
-if (this.#socket === socket && this.state !== "closed") this.#greeted(...answers.slice(-2))
-}).catch(error => this.#finish(error instanceof Refused ? error : endBy(error, "names, program")))
+Promise.all(opening.map(it=>it.answer)).then(answers=>{
+if(this.#socket===socket&&this.state!=="closed")this.#greeted(...answers.slice(-2))
+}).catch(error=>this.#finish(error))
 }
-#greeted(names, program) {
-const fingerprint = program?.fingerprint
-if (!(names instanceof Names) || !fingerprint) throw new Ended("the host tells no names and program")
-this.#greetedAt = performance.now()
-this.#fingerprint ??= fingerprint
-if (this.#fingerprint !== fingerprint) {
+#greeted(names,program){
+const{fingerprint}=program
+this.#greetedAt=performance.now()
+if(this.#late?.isOfOpening)this.#late=null
+this.#fingerprint??=fingerprint
+if(this.#fingerprint!==fingerprint){
 return this.#finish(new Ended(`the host has another program now, ${fingerprint}: it had ${this.#fingerprint}`))
 }
-this.names = names
-const asked = this.#asked.take()
-const begun = new Set(asked.map(it => it.watch))
-const missing = [...this.#watches.values()].filter(it => !begun.has(it)).map(it => new Asked(it.line))
-for (const it of asked) if (it.watch) it.line = it.watch.line
-const all = [...missing, ...asked]
-this.#asked = new Queue(all)
-this.#isOpened = true
+this.names=names
+const asked=this.#asked.take()
+const begun=new Set(asked.map(it=>it.watch))
+const missing=[...this.#watches.values()].filter(it=>!begun.has(it)).map(it=>new Asked(it.line))
+for(const it of asked)if(it.watch)it.line=it.watch.line
+const all=[...missing,...asked]
+this.#asked=new Queue(all)
+this.#isOpened=true
 this.#send(all)
 this.#turn("open")
 this.#isReady(this)
-if (this.connections > 1) for (const callback of this.#reopened) callBack(callback)
+if(this.connections>1)for(const callback of this.#reopened)callBack(callback)
 }
-#send(asked) {
-let text = ""
-for (const { line } of asked) {
-if (text.length + line.length >= MOST_MESSAGE) {
+#send(asked){
+let text=""
+for(const{line}of asked){
+if(text.length + line.length>=MOST_MESSAGE){
 this.#socket.send(text)
-text = ""
+text=""
 }
 text += `${line}\n`
 }
-if (text) this.#socket.send(text)
+if(text)this.#socket.send(text)
 }
-#closed() {
-this.#isOpened = false
-if (this.state === "closed") return
-if (!this.#reconnect) return this.#finish(new Ended("the connection was lost"))
-const hasLasted = this.#greetedAt !== null && performance.now() - this.#greetedAt >= LASTED
-if (hasLasted || this.#hasBrought) this.#pause = FIRST_PAUSE
-this.#greetedAt = null
-this.#hasBrought = false
+#closed(){
+this.#isOpened=false
+if(this.state==="closed")return
+this.#socket=null
+this.#isConnected=false
+if(!this.#reconnect)return this.#finish(new Ended("the connection was lost"))
+const hasLasted=this.#greetedAt!==null&&performance.now()- this.#greetedAt>=LASTED
+if(hasLasted||this.#hasBrought)this.#pause=FIRST_PAUSE
+this.#greetedAt=null
+this.#hasBrought=false
 this.#turn("connecting")
-this.#timer = setTimeout(() => this.#connect(), this.#pause)
-this.#pause = Math.min(2 * this.#pause, LONGEST_PAUSE)
+this.#timer=setTimeout(()=>this.#connect(),this.#pause)
+this.#pause=Math.min(2 * this.#pause,LONGEST_PAUSE)
 }
-#turn(state) {
-if (this.state === state) return
-this.state = state
-callBack(it => this.onstate?.(it), state)
+#wait(part){
+const isOwed=this.#socket&&(!this.#isConnected||this.#asked.length)
+this.#owed=isOwed?this.#owed + part:0
+if(this.#owed<=this.timeout)return
+const oldest=this.#isConnected?this.#asked.first:null
+if(!this.#reconnect||(oldest&&this.#late)){
+const missing = oldest ? `reply to "${told(oldest.line)}"` : "connection"
+return this.#finish(new Ended(`no ${missing} within ${this.timeout} milliseconds`))
 }
-onReopened(callback) {
+this.#late??=oldest
+this.#socket.close()
+this.#closed()
+}
+#turn(state){
+if(this.state===state)return
+this.state=state
+callBack(it=>this.onstate?.(it),state)
+}
+onReopened(callback){
 this.#reopened.add(callback)
 }
-close() {
+close(){
 this.#finish(new Ended("the client was closed"))
 }
-#finish(error) {
+#finish(error){
 clearTimeout(this.#timer)
-this.#isOpened = false
-this.error ??= error
+clearInterval(this.#clock)
+this.#isOpened=false
+this.error??=error
 this.#turn("closed")
 this.#isNotReady(error)
-for (const asked of this.#asked.take()) asked.reject(error)
-for (const watch of this.#watches.values()) watch.end()
+for(const asked of this.#asked.take())asked.reject(error)
+for(const watch of this.#watches.values())watch.end()
 this.#watches.clear()
-this.#socket.close()
+this.#socket?.close()
 }
-#hear(message) {
-for (const text of message.split("\n")) {
-if (this.state === "closed") return
-if (text.startsWith("* ")) this.#pushed(text.slice(2))
-else if (text) this.#answered(text)
+#hear(message){
+if(typeof message!=="string"||message.length>MOST_HEARD){
+return this.#finish(new Ended(`the host says what is no text of at most ${MOST_HEARD} letters`))
+}
+for(const text of message.split("\n")){
+if(this.state==="closed")return
+if(text.startsWith("* "))this.#pushed(text.slice(2))
+else this.#answered(text)
 }
 }
-#answered(text) {
-const asked = this.#asked.shift()
-if (!asked) return this.#finish(new Ended(`a reply that nobody waits for: "${text}"`))
-try {
-const value = replyOf(text, asked.line)
-this.#hasBrought ||= value?.isNew === true
-if (value instanceof Refused) asked.reject(value)
+#answered(text){
+const asked=this.#asked.shift()
+if (!asked) return this.#finish(new Ended(`a reply that nobody waits for: ${shown(text)}`))
+this.#owed=0
+if(asked===this.#late)this.#late=null
+try{
+const value=replyOf(text,asked.line)
+this.#hasBrought||=value?.isNew===true
+if(value instanceof Refused)asked.reject(value)
 else asked.resolve(value)
-} catch (error) {
-const end = endBy(error, text)
-asked.reject(end)
-this.#finish(end)
+}catch(error){
+asked.reject(error)
+this.#finish(error)
 }
 }
-#pushed(text) {
-const [kind, ...words] = text.split(" ")
-if (!Object.hasOwn(PUSHES, kind)) return
-const value = this.#read(kind, words, text)
-if (!value) return
-if (kind === "vars") value.values.forEach((it, at) => (this.vars[this.names.vars[at] ?? at] = it))
-this.#hasBrought ||= kind === "log" || kind === "released"
-this.#watches.get(SUBJECT_OF[kind] ?? kind)?.push(value)
+#pushed(text){
+const [kind,...words]=text.split(" ")
+if(!Object.hasOwn(PUSHES,kind))return
+const value=this.#read(kind,words,text)
+if(!value)return
+if(kind==="vars")value.values.forEach((it,at)=>(this.vars[this.names.vars[at]??at]=it))
+this.#hasBrought||=kind==="log"||kind==="released"
+const watch=this.#watches.get(SUBJECT_OF[kind]??kind)
+if(!watch)return
+this.#owed=0
+watch.push(value)
 }
-#read(kind, words, text) {
-try {
+#read(kind,words,text){
+try{
 return PUSHES[kind](words)
-} catch (error) {
+}catch(error){
 this.#finish(endBy(error, `* ${text}`))
 }
 }
-#put(line, watch) {
-if (line.includes("\n")) return Promise.reject(new RangeError("more than one line"))
-if (this.state === "closed") return Promise.reject(new Ended("the client is closed"))
-const asked = new Asked(line, watch)
+#put(line,watch){
+if(line.includes("\n"))return Promise.reject(new RangeError("more than one line"))
+if(this.state==="closed")return Promise.reject(new Ended("the client is closed"))
+const asked=new Asked(line,watch)
 this.#asked.push(asked)
-if (this.#isOpened) this.#send([asked])
+if(this.#isOpened)this.#send([asked])
 return asked.answer
 }
-ask(line) {
+ask(line){
 return this.#put(String(line))
 }
-outputs() {
+outputs(){
 return this.ask("outputs")
 }
-output(index) {
+output(index){
 return this.ask(`output ${index}`)
 }
-lost() {
+lost(){
 return this.ask("lost")
 }
-program() {
+program(){
 return this.ask("program")
 }
-watch(what, callback = null, { from = { log: 1, released: 0 }[what] ?? null } = {}) {
-number("subject of a watch", what, SUBJECTS)
+watch(what,callback=null,{from={log:1,released:0}[what]??null}={}){
+number("subject of a watch",what,SUBJECTS)
 if (from !== null && what !== "log" && what !== "released") throw new RangeError(`a watch of ${what} has no start`)
 this.#watches.get(what)?.end()
-const watch = new Watch(this, what, from, callback)
-this.#watches.set(what, watch)
-watch.started = this.#put(watch.line, watch)
-watch.started.catch(() => {
-if (this.#watches.get(what) === watch) this.#watches.delete(what)
+const watch=new Watch(this,what,from,callback)
+this.#watches.set(what,watch)
+watch.started=this.#put(watch.line,watch)
+watch.started.catch(()=>{
+if(this.#watches.get(what)===watch)this.#watches.delete(what)
 watch.end()
 })
 return watch
 }
-async unwatch(watch) {
-if (this.#watches.get(watch.what) !== watch) return
+async unwatch(watch){
+if(this.#watches.get(watch.what)!==watch)return
 this.#watches.delete(watch.what)
 await this.ask(`unwatch ${watch.what}`)
 }
 }
-const orderOf = (one, other) => one.time - other.time || one.micro - other.micro
+const orderOf=(one,other)=>one.time - other.time||one.micro - other.micro
 const tagText = tag => (tag.micro ? `${tag.time}.${tag.micro}` : `${tag.time}`)
-function recordText(record, names) {
+function recordText(record,names){
 if (record.kind === "withdraw") return `origin ${record.origin} withdraws`
 if (record.kind === "event") return `${names.inputs[record.input]?.name ?? `input ${record.input}`} = ${record.value}`
 const withdrawn = record.withdrawn ? `, ${record.withdrawn} withdrawn` : ""
 return `origin ${record.origin} announces ${record.events} ${record.events === 1 ? "event" : "events"}${withdrawn}`
 }
-function answerText(answer) {
+function answerText(answer){
 if (answer.isNew) return `taken ${answer.place}: it is new, and stands at place ${answer.place} of the log.`
 return `known ${answer.place}: it was there already, at place ${answer.place} of the log.`
 }
-const MOST = 10_000
-const SPARE = 4
-class Last {
-#items = []
-added = 0
-add(item) {
-this.#items[this.added % MOST] = item
-this.added += 1
+const MOST=10_000
+const SPARE=4
+class Last{
+#items=[]
+added=0
+add(item){
+this.#items[this.added % MOST]=item
+this.added +=1
 }
-get length() {
-return Math.min(this.added, MOST)
+get length(){
+return Math.min(this.added,MOST)
 }
-at(age) {
-return this.#items[(this.added - 1 - age) % MOST]
+at(age){
+return this.#items[(this.added - 1 - age)% MOST]
 }
-clear() {
-this.#items = []
-this.added = 0
+clear(){
+this.#items=[]
+this.added=0
 }
 }
-class Rows {
+class Rows{
 #box
-#list = document.createElement("ul")
+#list=document.createElement("ul")
 #tellsOf
-#length = 0
+#length=0
 #row
-#added = 0
-constructor(box, tellsOf) {
-this.#box = box
-this.#tellsOf = tellsOf
+#added=0
+constructor(box,tellsOf){
+this.#box=box
+this.#tellsOf=tellsOf
 box.append(this.#list)
-box.addEventListener("scroll", () => requestAnimationFrame(() => this.#render()))
+box.addEventListener("scroll",()=>requestAnimationFrame(()=>this.#render()))
 }
-show(length, added = 0) {
-const grown = added - this.#added
-this.#added = added
-this.#length = length
-this.#row = parseInt(getComputedStyle(this.#box).getPropertyValue("--row"))
+show(length,added=0){
+const grown=added - this.#added
+this.#added=added
+this.#length=length
+this.#row=parseInt(getComputedStyle(this.#box).getPropertyValue("--row"))
 this.#list.style.height = `${length * this.#row}px`
-if (grown > 0 && this.#box.scrollTop >= this.#row) this.#box.scrollTop += grown * this.#row
+if(grown>0&&this.#box.scrollTop>=this.#row)this.#box.scrollTop +=grown * this.#row
 this.#render()
 }
-#render() {
+#render(){
 const first = Math.max(0, Math.floor(this.#box.scrollTop / this.#row) - SPARE)
 const seen = Math.ceil(this.#box.clientHeight / this.#row) + 2 * SPARE
-const wanted = Math.max(0, Math.min(seen, this.#length - first))
-while (this.#list.childElementCount > wanted) this.#list.lastElementChild.remove()
-while (this.#list.childElementCount < wanted) this.#list.append(rowOfWords())
-for (let at = 0; at < wanted; at += 1) this.#fill(this.#list.children[at], first + at)
+const wanted=Math.max(0,Math.min(seen,this.#length - first))
+while(this.#list.childElementCount>wanted)this.#list.lastElementChild.remove()
+while(this.#list.childElementCount<wanted)this.#list.append(rowOfWords())
+for(let at=0; at<wanted; at +=1)this.#fill(this.#list.children[at],first + at)
 }
-#fill(item, number) {
-fillRow(item, this.#tellsOf(number))
+#fill(item,number){
+fillRow(item,this.#tellsOf(number))
 item.style.transform = `translateY(${number * this.#row}px)`
-item.setAttribute("aria-setsize", this.#length)
-item.setAttribute("aria-posinset", number + 1)
+item.setAttribute("aria-setsize",this.#length)
+item.setAttribute("aria-posinset",number + 1)
 }
 }
-function rowOfWords() {
-const item = document.createElement("li")
-for (const kind of ["dim", "", "end"]) item.append(Object.assign(document.createElement("span"), { className: kind }))
+function rowOfWords(){
+const item=document.createElement("li")
+for(const kind of ["dim","","end"])item.append(Object.assign(document.createElement("span"),{className:kind}))
 return item
 }
-function fillRow(item, { words, kind = "" }) {
-item.className = kind
-words.forEach((word, at) => {
-if (item.children[at].textContent !== word) item.children[at].textContent = word
+function fillRow(item,{words,kind=""}){
+item.className=kind
+words.forEach((word,at)=>{
+if(item.children[at].textContent!==word)item.children[at].textContent=word
 })
 return item
 }
-class Reach {
-announced = null
-tag = null
-isLost = false
-#names = { event: new Map(), withdraw: new Map() }
-#before = { event: 0, withdraw: 0 }
-#waiting = []
-take(record) {
-if (record.kind !== "announce") this.#takeName(record)
+class Reach{
+announced=null
+tag=null
+isLost=false
+#names={event:new Map(),withdraw:new Map()}
+#before={event:0,withdraw:0}
+#waiting=[]
+take(record){
+if(record.kind!=="announce")this.#takeName(record)
 else this.#takeWord(record)
-if (this.#names.event.size + this.#names.withdraw.size + this.#waiting.length > MOST) this.#lose()
+if(this.#names.event.size + this.#names.withdraw.size + this.#waiting.length>MOST)this.#lose()
 }
-#isBehind(tag) {
-return this.isLost || (this.tag !== null && orderOf(tag, this.tag) < 0)
+#isBehind(tag){
+return this.isLost||(this.tag!==null&&orderOf(tag,this.tag)<0)
 }
-#takeName({ kind, time, micro }) {
-const tag = { time, micro }
-const names = this.#names[kind]
-if (this.#isBehind(tag) || names.has(tagText(tag))) return
-names.set(tagText(tag), tag)
-for (const word of this.#waiting) if (orderOf(tag, word.tag) < 0) word.missing[kind] -= 1
+#takeName({kind,time,micro}){
+const tag={time,micro}
+const names=this.#names[kind]
+if(this.#isBehind(tag)||names.has(tagText(tag)))return
+names.set(tagText(tag),tag)
+for(const word of this.#waiting)if(orderOf(tag,word.tag)<0)word.missing[kind] -=1
 this.#goOn()
 }
-#takeWord({ time, micro, events, withdrawn }) {
-const tag = { time, micro }
-if (!this.announced || orderOf(this.announced, tag) < 0) this.announced = tag
-if (this.#isBehind(tag)) return
-const missing = { event: events - this.#countBefore("event", tag), withdraw: withdrawn - this.#countBefore("withdraw", tag) }
-this.#waiting.push({ tag, missing })
+#takeWord({time,micro,events,withdrawn}){
+const tag={time,micro}
+if(!this.announced||orderOf(this.announced,tag)<0)this.announced=tag
+if(this.#isBehind(tag))return
+const missing={event:events - this.#countBefore("event",tag),withdraw:withdrawn - this.#countBefore("withdraw",tag)}
+this.#waiting.push({tag,missing})
 this.#goOn()
 }
-#countBefore(kind, tag) {
-let count = this.#before[kind]
-for (const name of this.#names[kind].values()) if (orderOf(name, tag) < 0) count += 1
+#countBefore(kind,tag){
+let count=this.#before[kind]
+for(const name of this.#names[kind].values())if(orderOf(name,tag)<0)count +=1
 return count
 }
-#goOn() {
-const reached = this.#waiting.filter(({ missing }) => missing.event <= 0 && missing.withdraw <= 0).map(it => it.tag)
-if (!reached.length) return
-this.tag = reached.reduce((one, other) => (orderOf(one, other) < 0 ? other : one))
-this.#waiting = this.#waiting.filter(({ tag }) => orderOf(this.tag, tag) < 0)
-for (const kind of ["event", "withdraw"]) {
-for (const [text, name] of this.#names[kind]) {
-if (!this.#isBehind(name)) continue
+#goOn(){
+const reached=this.#waiting.filter(({missing})=>missing.event<=0&&missing.withdraw<=0).map(it=>it.tag)
+if(!reached.length)return
+this.tag=reached.reduce((one,other)=>(orderOf(one,other)<0?other:one))
+this.#waiting=this.#waiting.filter(({tag})=>orderOf(this.tag,tag)<0)
+for(const kind of ["event","withdraw"]){
+for(const [text,name] of this.#names[kind]){
+if(!this.#isBehind(name))continue
 this.#names[kind].delete(text)
-this.#before[kind] += 1
+this.#before[kind] +=1
 }
 }
 }
-#lose() {
-this.isLost = true
-this.#waiting = []
-for (const names of Object.values(this.#names)) names.clear()
+#lose(){
+this.isLost=true
+this.#waiting=[]
+for(const names of Object.values(this.#names))names.clear()
 }
 }
-const OPEN_SHOWN = 20
-class Replica {
-constructor() {
-this.records = new Last()
-this.acts = new Last()
-this.released = new Last()
+const OPEN_SHOWN=20
+class Replica{
+constructor(){
+this.records=new Last()
+this.acts=new Last()
+this.released=new Last()
 this.clear()
 }
-clear() {
+clear(){
 this.records.clear()
 this.acts.clear()
 this.released.clear()
-Object.assign(this, { log: 0, newest: null, late: 0, lastLate: null, horizon: null, values: [], frozen: false })
-Object.assign(this, { changed: new Set(), broken: new Set(), origins: new Map() })
-Object.assign(this, { outputs: 0, lost: 0, asked: [], askedFrom: 0 })
+Object.assign(this,{log:0,newest:null,late:0,lastLate:null,horizon:null,values:[],frozen:false})
+Object.assign(this,{changed:new Set(),broken:new Set(),origins:new Map()})
+Object.assign(this,{outputs:0,lost:0,asked:[],askedFrom:0})
 this.clearSteps()
 }
-clearSteps() {
-Object.assign(this, { steps: 0, rollbacks: 0, again: 0, lastRollback: null, skipped: 0 })
+clearSteps(){
+Object.assign(this,{steps:0,rollbacks:0,again:0,lastRollback:null,skipped:0})
 }
-takeStep({ rollback, skipped = 0 }) {
-this.skipped += skipped
-if (rollback) {
-this.rollbacks += 1
-this.again += rollback.again
-this.lastRollback = rollback
-} else if (!skipped) this.steps += 1
+takeStep({rollback,skipped=0}){
+this.skipped +=skipped
+if(rollback){
+this.rollbacks +=1
+this.again +=rollback.again
+this.lastRollback=rollback
+}else if(!skipped)this.steps +=1
 }
-takeRecord({ place, record }) {
-if (place !== this.log + 1) return
-this.log = place
-if (!this.origins.has(record.origin)) this.origins.set(record.origin, new Reach())
+takeRecord({place,record}){
+if(place!==this.log + 1)return
+this.log=place
+if(!this.origins.has(record.origin))this.origins.set(record.origin,new Reach())
 this.origins.get(record.origin).take(record)
-const item = { place, record, back: null }
+const item={place,record,back:null}
 this.records.add(item)
-if (record.kind === "announce") return
+if(record.kind==="announce")return
 this.acts.add(item)
-if (this.newest && orderOf(record, this.newest) < 0) this.#takeLate(item)
-else this.newest = { time: record.time, micro: record.micro }
+if(this.newest&&orderOf(record,this.newest)<0)this.#takeLate(item)
+else this.newest={time:record.time,micro:record.micro}
 }
-#takeLate(item) {
-item.back = this.newest
-this.late += 1
-this.lastLate = item
+#takeLate(item){
+item.back=this.newest
+this.late +=1
+this.lastLate=item
 }
-takeReleased(row) {
-if (row.frozen) this.frozen = true
-else if (row.index === this.released.added) this.released.add(row)
+takeReleased(row){
+if(row.frozen)this.frozen=true
+else if(row.index===this.released.added)this.released.add(row)
 }
-takeVars({ values }) {
-const before = this.values
-this.changed = new Set([...values.keys()].filter(at => before.length && values[at] !== before[at]))
-this.values = values
+takeVars({values}){
+const before=this.values
+this.changed=new Set([...values.keys()].filter(at=>before.length&&values[at]!==before[at]))
+this.values=values
 }
-takeHorizon({ time, micro }) {
-this.horizon = { time, micro }
+takeHorizon({time,micro}){
+this.horizon={time,micro}
 }
-takeBreach({ origins }) {
-this.broken = new Set(origins)
+takeBreach({origins}){
+this.broken=new Set(origins)
 }
-async askOpen(client) {
-const [{ count }, lost] = await Promise.all([client.outputs(), client.lost()])
-const first = this.released.added
-const length = Math.max(0, Math.min(count - first, OPEN_SHOWN))
-const rows = await Promise.all(Array.from({ length }, (_, at) => client.output(first + at)))
-Object.assign(this, { outputs: count, lost: lost.count, asked: rows.filter(Boolean), askedFrom: first })
+async askOpen(client){
+const [{count},lost]=await Promise.all([client.outputs(),client.lost()])
+const first=this.released.added
+const length=Math.max(0,Math.min(count - first,OPEN_SHOWN))
+const rows=await Promise.all(Array.from({length},(_,at)=>client.output(first + at)))
+Object.assign(this,{outputs:count,lost:lost.count,asked:rows.filter(Boolean),askedFrom:first})
 }
-get open() {
+get open(){
 return this.asked.slice(this.released.added - this.askedFrom)
 }
-reachOf(origin) {
-const { announced = null, tag = null, isLost = false } = this.origins.get(origin) ?? {}
-const isLeast = isLost || this.broken.has(origin)
-const isBehind = isLeast && this.horizon && (!tag || orderOf(tag, this.horizon) < 0)
-return { announced, tag: isBehind ? this.horizon : tag, isLeast }
+reachOf(origin){
+const{announced=null,tag=null,isLost=false}=this.origins.get(origin)??{}
+const isLeast=isLost||this.broken.has(origin)
+const isBehind=isLeast&&this.horizon&&(!tag||orderOf(tag,this.horizon)<0)
+return{announced,tag:isBehind?this.horizon:tag,isLeast}
 }
-countBefore(origin, tag) {
-if (this.log > MOST) return null
-const names = { event: new Set(), withdraw: new Set() }
-for (let age = 0; age < this.records.length; age += 1) {
-const { record } = this.records.at(age)
-const isCounted = record.origin === origin && record.kind in names && orderOf(record, tag) < 0
+countBefore(origin,tag){
+if(this.log>MOST)return null
+const names={event:new Set(),withdraw:new Set()}
+for(let age=0; age<this.records.length; age +=1){
+const{record}=this.records.at(age)
+const isCounted=record.origin===origin&&record.kind in names&&orderOf(record,tag)<0
 if (isCounted) names[record.kind].add(`${record.time}.${record.micro}`)
 }
-return { events: names.event.size, withdrawn: names.withdraw.size }
+return{events:names.event.size,withdrawn:names.withdraw.size}
 }
 }
-const GUTTER = 30
-const EDGE = 12
-const ARROWS = 6
-const ARROW = 17
-const AXIS = 22
-function stepOf(range, most) {
+const GUTTER=30
+const EDGE=12
+const ARROWS=6
+const ARROW=17
+const AXIS=22
+function stepOf(range,most){
 const least = Math.max(1, range / most)
-const ten = 10 ** Math.floor(Math.log10(least))
-return [1, 2, 5, 10].map(it => it * ten).find(it => it >= least)
+const ten=10 ** Math.floor(Math.log10(least))
+return [1,2,5,10].map(it=>it * ten).find(it=>it>=least)
 }
-function rangeOf(records, horizon) {
-let low = horizon ? horizon.time : Infinity
-let high = horizon ? horizon.time : -Infinity
-for (const { record, back } of records) {
-low = Math.min(low, record.time)
-high = Math.max(high, record.time, back ? back.time : 0)
+function rangeOf(records,horizon){
+let low=horizon?horizon.time:Infinity
+let high=horizon?horizon.time:-Infinity
+for(const{record,back}of records){
+low=Math.min(low,record.time)
+high=Math.max(high,record.time,back?back.time:0)
 }
-if (low > high) [low, high] = [0, 1]
-const free = Math.max(0.5, (high - low) * 0.02)
-return { low: Math.max(0, low - free), high: high + free + 1 }
+if(low>high)[low,high]=[0,1]
+const free=Math.max(0.5,(high - low)* 0.02)
+return{low:Math.max(0,low - free),high:high + free + 1}
 }
-class Timeline {
+class Timeline{
 #canvas
 #pen
-#colours = {}
-constructor(canvas) {
-this.#canvas = canvas
-this.#pen = canvas.getContext("2d")
+#colours={}
+constructor(canvas){
+this.#canvas=canvas
+this.#pen=canvas.getContext("2d")
 }
-draw({ records, origins, reachOf, horizon, micros }) {
+draw({records,origins,reachOf,horizon,micros}){
 const lane = Math.max(5, Math.min(24, 260 / Math.max(1, origins.length)))
-const late = records.filter(it => it.back).slice(0, ARROWS)
-const width = this.#canvas.clientWidth
-const lanes = Math.max(1, origins.length) * lane
-this.#size(width, lanes + ARROWS * ARROW + AXIS + 16)
-const { low, high } = rangeOf(records, horizon)
+const late=records.filter(it=>it.back).slice(0,ARROWS)
+const width=this.#canvas.clientWidth
+const lanes=Math.max(1,origins.length)* lane
+this.#size(width,lanes + ARROWS * ARROW + AXIS + 16)
+const{low,high}=rangeOf(records,horizon)
 const scale = (width - GUTTER - EDGE) / (high - low)
 const x = tag => GUTTER + (tag.time + tag.micro / micros - low) * scale
-const plan = { low, high, x, lane, lanes, width, origins, top: 16 }
-this.#back(plan, horizon)
+const plan={low,high,x,lane,lanes,width,origins,top:16}
+this.#back(plan,horizon)
 this.#axis(plan)
-for (let at = records.length - 1; at >= 0; at -= 1) this.#record(plan, records[at])
-origins.forEach((origin, number) => {
-const { announced, tag } = reachOf(origin)
-this.#bracket(plan, "faint", number, announced)
-this.#bracket(plan, "good", number, tag)
+for(let at=records.length - 1; at>=0; at -=1)this.#record(plan,records[at])
+origins.forEach((origin,number)=>{
+const{announced,tag}=reachOf(origin)
+this.#bracket(plan,"faint",number,announced)
+this.#bracket(plan,"good",number,tag)
 })
-late.forEach((it, at) => this.#arrow(plan, it, at))
+late.forEach((it,at)=>this.#arrow(plan,it,at))
 }
-#size(width, height) {
-const ratio = window.devicePixelRatio || 1
-const [across, down] = [Math.round(width * ratio), Math.round(height * ratio)]
-if (this.#canvas.width !== across || this.#canvas.height !== down) {
-Object.assign(this.#canvas, { width: across, height: down })
+#size(width,height){
+const ratio=window.devicePixelRatio||1
+const [across,down]=[Math.round(width * ratio),Math.round(height * ratio)]
+if(this.#canvas.width!==across||this.#canvas.height!==down){
+Object.assign(this.#canvas,{width:across,height:down})
 this.#canvas.style.height = `${height}px`
 }
-this.#pen.setTransform(ratio, 0, 0, ratio, 0, 0)
-this.#pen.clearRect(0, 0, width, height)
-this.#pen.font = "12px system-ui, sans-serif"
-const style = getComputedStyle(document.documentElement)
-for (const name of ["ink", "faint", "rule", "accent", "late", "shade", "good"]) {
+this.#pen.setTransform(ratio,0,0,ratio,0,0)
+this.#pen.clearRect(0,0,width,height)
+this.#pen.font="12px system-ui, sans-serif"
+const style=getComputedStyle(document.documentElement)
+for(const name of ["ink","faint","rule","accent","late","shade","good"]){
 this.#colours[name] = style.getPropertyValue(`--${name}`)
 }
 }
-#line(colour, from, to, { width = 1, dash = [] } = {}) {
-const pen = this.#pen
-pen.strokeStyle = this.#colours[colour]
-pen.lineWidth = width
+#line(colour,from,to,{width=1,dash=[]}={}){
+const pen=this.#pen
+pen.strokeStyle=this.#colours[colour]
+pen.lineWidth=width
 pen.setLineDash(dash)
 pen.beginPath()
 pen.moveTo(...from)
 pen.lineTo(...to)
 pen.stroke()
 }
-#text(colour, text, x, y, align = "left") {
-this.#pen.fillStyle = this.#colours[colour]
-this.#pen.textAlign = align
-this.#pen.fillText(text, x, y)
+#text(colour,text,x,y,align="left"){
+this.#pen.fillStyle=this.#colours[colour]
+this.#pen.textAlign=align
+this.#pen.fillText(text,x,y)
 }
-#back({ x, top, lane, lanes, width, origins }, horizon) {
-const at = horizon ? Math.min(x(horizon), width - EDGE) : GUTTER
-if (at > GUTTER) {
-this.#pen.fillStyle = this.#colours.shade
-this.#pen.fillRect(GUTTER, top, at - GUTTER, lanes)
+#back({x,top,lane,lanes,width,origins},horizon){
+const at=horizon?Math.min(x(horizon),width - EDGE):GUTTER
+if(at>GUTTER){
+this.#pen.fillStyle=this.#colours.shade
+this.#pen.fillRect(GUTTER,top,at - GUTTER,lanes)
 }
-origins.forEach((origin, number) => {
-const y = top + (number + 0.5) * lane
-this.#line("rule", [GUTTER, y], [width - EDGE, y])
+origins.forEach((origin,number)=>{
+const y=top +(number + 0.5)* lane
+this.#line("rule",[GUTTER,y],[width - EDGE,y])
 if (lane > 11) this.#text("faint", `${origin}`, GUTTER - 8, y + 4, "right")
 })
-if (!horizon) return
-this.#line("good", [at, top - 2], [at, top + lanes], { width: 2, dash: [5, 3] })
+if(!horizon)return
+this.#line("good",[at,top - 2],[at,top + lanes],{width:2,dash:[5,3]})
 const align = at < width / 2 ? "left" : "right"
 this.#text("good", `horizon ${tagText(horizon)}`, at + (align === "left" ? 3 : -3), top - 4, align)
 }
-#axis({ low, high, x, top, lanes, width }) {
-const y = top + lanes + ARROWS * ARROW + 4
+#axis({low,high,x,top,lanes,width}){
+const y=top + lanes + ARROWS * ARROW + 4
 const step = stepOf(high - low, width / 70)
-this.#line("faint", [GUTTER, y], [width - EDGE, y])
+this.#line("faint",[GUTTER,y],[width - EDGE,y])
 for (let time = Math.ceil(low / step) * step; time <= high; time += step) {
-const at = x({ time, micro: 0 })
+const at=x({time,micro:0})
 const half = this.#pen.measureText(`${time}`).width / 2
-this.#line("faint", [at, y], [at, y + 4])
+this.#line("faint",[at,y],[at,y + 4])
 this.#text("faint", `${time}`, Math.min(at, width - half), y + 16, "center")
 }
 }
-#bracket({ x, top, lane, low, high }, colour, number, tag) {
-if (!tag || tag.time < low || tag.time > high) return
-const [at, y, half] = [x(tag), top + (number + 0.5) * lane, Math.max(2, lane * 0.32)]
-this.#line(colour, [at, y - half], [at, y + half], { width: 2 })
-this.#line(colour, [at - 4, y - half], [at, y - half], { width: 2 })
-this.#line(colour, [at - 4, y + half], [at, y + half], { width: 2 })
+#bracket({x,top,lane,low,high},colour,number,tag){
+if(!tag||tag.time<low||tag.time>high)return
+const [at,y,half]=[x(tag),top +(number + 0.5)* lane,Math.max(2,lane * 0.32)]
+this.#line(colour,[at,y - half],[at,y + half],{width:2})
+this.#line(colour,[at - 4,y - half],[at,y - half],{width:2})
+this.#line(colour,[at - 4,y + half],[at,y + half],{width:2})
 }
-#record({ x, top, lane, origins }, { record, back }) {
-if (record.kind === "announce") return
-const [at, y] = [x(record), top + (origins.indexOf(record.origin) + 0.5) * lane]
+#record({x,top,lane,origins},{record,back}){
+if(record.kind==="announce")return
+const [at,y]=[x(record),top +(origins.indexOf(record.origin)+ 0.5)* lane]
 const size = Math.max(2, Math.min(4.5, lane / 3))
-const colour = back ? "late" : "accent"
-if (record.kind === "withdraw") {
-this.#line(colour, [at - size, y - size], [at + size, y + size], { width: 2 })
-this.#line(colour, [at - size, y + size], [at + size, y - size], { width: 2 })
+const colour=back?"late":"accent"
+if(record.kind==="withdraw"){
+this.#line(colour,[at - size,y - size],[at + size,y + size],{width:2})
+this.#line(colour,[at - size,y + size],[at + size,y - size],{width:2})
 return
 }
-this.#pen.fillStyle = this.#colours[colour]
+this.#pen.fillStyle=this.#colours[colour]
 this.#pen.beginPath()
-this.#pen.arc(at, y, size, 0, 2 * Math.PI)
+this.#pen.arc(at,y,size,0,2 * Math.PI)
 this.#pen.fill()
 }
-#arrow({ x, top, lanes, width }, { record, back }, number) {
-const y = top + lanes + (number + 0.6) * ARROW
-const [from, to] = [x(back), x(record)]
-const pen = this.#pen
-pen.globalAlpha = 1 - number * 0.07
-this.#line("late", [from, y], [to, y], { width: number === 0 ? 2.5 : 1.5 })
-this.#line("late", [from, y - 4], [from, y + 4], { width: 1.5 })
-pen.fillStyle = this.#colours.late
+#arrow({x,top,lanes,width},{record,back},number){
+const y=top + lanes +(number + 0.6)* ARROW
+const [from,to]=[x(back),x(record)]
+const pen=this.#pen
+pen.globalAlpha=1 - number * 0.07
+this.#line("late",[from,y],[to,y],{width:number===0?2.5:1.5})
+this.#line("late",[from,y - 4],[from,y + 4],{width:1.5})
+pen.fillStyle=this.#colours.late
 pen.beginPath()
-pen.moveTo(to - 1, y)
-pen.lineTo(to + 7, y - 4.5)
-pen.lineTo(to + 7, y + 4.5)
+pen.moveTo(to - 1,y)
+pen.lineTo(to + 7,y - 4.5)
+pen.lineTo(to + 7,y + 4.5)
 pen.fill()
 const text = `${tagText(back)} back to ${tagText(record)}`
-const wide = 6 + pen.measureText(text).width
-if (from + wide < width) this.#text("late", text, from + 6, y + 4)
-else if (to > wide) this.#text("late", text, to - 6, y + 4, "right")
-else this.#text("late", text, Math.max(wide, from - 6), y - 3, "right")
-pen.globalAlpha = 1
+const wide=6 + pen.measureText(text).width
+if(from + wide<width)this.#text("late",text,from + 6,y + 4)
+else if(to>wide)this.#text("late",text,to - 6,y + 4,"right")
+else this.#text("late",text,Math.max(wide,from - 6),y - 3,"right")
+pen.globalAlpha=1
 }
 }
-function inWords({ records, horizon }, lateCount) {
-if (!records.length) return "No records yet"
-const [last, first] = [records[0], records.at(-1)]
-const late = records.find(it => it.back)
+function inWords({records,horizon},lateCount){
+if(!records.length)return "No records yet"
+const [last,first]=[records[0],records.at(-1)]
+const late=records.find(it=>it.back)
 return [
 `Records ${first.place} to ${last.place} by tag`,
 horizon ? `the horizon at ${tagText(horizon)}` : "no horizon",
 late ? `${lateCount} came late, the last went from ${tagText(late.back)} back to ${tagText(late.record)}` : "none came late",
 ].join(", ")
 }
-const PAUSE = 400
-const at = id => document.getElementById(id)
-const put = (id, text) => at(id).textContent !== text && (at(id).textContent = text)
-const replica = new Replica()
-const timeline = new Timeline(at("timeline"))
-const limits = { log: "", origins: 0 }
+const PAUSE=400
+const at=id=>document.getElementById(id)
+const put=(id,text)=>at(id).textContent!==text&&(at(id).textContent=text)
+const replica=new Replica()
+const timeline=new Timeline(at("timeline"))
+const limits={log:"",origins:0}
 let client
 let token
 let program
-let watches = []
-let steps = null
-let isDrawn = false
-let isAsking = false
-let mayTellLate = true
-const rows = {
-records: new Rows(at("records"), age => recordRow(listed().at(age))),
-released: new Rows(at("released"), age => outputRow(replica.released.at(age))),
-vars: new Rows(at("vars"), number => ({
+let watches=[]
+let steps=null
+let isDrawn=false
+let isAsking=false
+let mayTellLate=true
+const rows={
+records:new Rows(at("records"),age=>recordRow(listed().at(age))),
+released:new Rows(at("released"),age=>outputRow(replica.released.at(age))),
+vars:new Rows(at("vars"),number=>({
 words: ["", client.names.vars[number] ?? `variable ${number}`, `${replica.values[number]}`],
-kind: replica.changed.has(number) ? "new" : "",
+kind:replica.changed.has(number)?"new":"",
 })),
 }
-const listed = () => (at("words").checked ? replica.records : replica.acts)
-function recordRow({ place, record, back }) {
+const listed=()=>(at("words").checked?replica.records:replica.acts)
+function recordRow({place,record,back}){
 const end = back ? `late: ${tagText(back)} back to ${tagText(record)}` : ""
 return { words: [`${place}`, `at ${tagText(record)}  ${recordText(record, client.names)}`, end], kind: back ? "late" : "" }
 }
-function outputRow(row) {
+function outputRow(row){
 return { words: [`at ${tagText(row)}`, client.names.outputs[row.output] ?? `output ${row.output}`, `${row.value}`] }
 }
-function touch() {
-if (!isDrawn) requestAnimationFrame(draw)
-isDrawn = true
+function touch(){
+if(!isDrawn)requestAnimationFrame(draw)
+isDrawn=true
 }
-function draw() {
-isDrawn = false
+function draw(){
+isDrawn=false
 drawFacts()
 drawOrigins()
-rows.records.show(listed().length, listed().added)
-rows.released.show(replica.released.length, replica.released.added)
+rows.records.show(listed().length,listed().added)
+rows.released.show(replica.released.length,replica.released.added)
 rows.vars.show(replica.values.length)
 drawOpen()
 drawTimeline()
@@ -972,208 +1069,208 @@ tellLate()
 tellAgain()
 warn()
 }
-function drawFacts() {
-const { log, horizon, released, outputs, frozen, lost } = replica
+function drawFacts(){
+const{log,horizon,released,outputs,frozen,lost}=replica
 put("program", program ? `version ${program.version}, ${program.fingerprint}` : "-")
 put("log", `${log} ${log === 1 ? "record" : "records"}${limits.log && ` of at most ${limits.log}`}`)
-put("horizon", horizon ? tagText(horizon) : "-")
-const waiting = Math.max(0, outputs - released.added)
+put("horizon",horizon?tagText(horizon):"-")
+const waiting=Math.max(0,outputs - released.added)
 put("counts", `${released.added} released${frozen ? ", frozen: an origin broke its word" : ""}, ${waiting} not yet${lost ? `, ${lost} lost` : ""}`)
 }
-function originsNow() {
-const known = [...client.names.inputs.map(it => it.origin), ...replica.origins.keys(), ...Array(limits.origins).keys()]
-return [...new Set(known)].sort((one, other) => one - other)
+function originsNow(){
+const known=[...client.names.inputs.map(it=>it.origin),...replica.origins.keys(),...Array(limits.origins).keys()]
+return [...new Set(known)].sort((one,other)=>one - other)
 }
-function reachWords({ announced, tag, isLeast }) {
-if (!announced) return ["-", "-"]
+function reachWords({announced,tag,isLeast}){
+if(!announced)return ["-","-"]
 return [tagText(announced), `${isLeast ? "at least " : ""}${tag ? tagText(tag) : "-"}`]
 }
-function drawOrigins() {
-const body = at("origins")
-const origins = originsNow()
-while (body.childElementCount > origins.length) body.lastElementChild.remove()
-while (body.childElementCount < origins.length) body.insertRow().append(...[0, 1, 2, 3].map(() => document.createElement("td")))
-origins.forEach((origin, number) => {
-const isBroken = replica.broken.has(origin)
-const inputs = client.names.inputs.filter(it => it.origin === origin).map(it => it.name)
+function drawOrigins(){
+const body=at("origins")
+const origins=originsNow()
+while(body.childElementCount>origins.length)body.lastElementChild.remove()
+while(body.childElementCount<origins.length)body.insertRow().append(...[0,1,2,3].map(()=>document.createElement("td")))
+origins.forEach((origin,number)=>{
+const isBroken=replica.broken.has(origin)
+const inputs=client.names.inputs.filter(it=>it.origin===origin).map(it=>it.name)
 const words = [`${origin}${isBroken ? ", broken" : ""}`, inputs.join(", "), ...reachWords(replica.reachOf(origin))]
-body.children[number].className = isBroken ? "bad" : ""
-words.forEach((word, cell) => (body.children[number].children[cell].textContent = word))
+body.children[number].className=isBroken?"bad":""
+words.forEach((word,cell)=>(body.children[number].children[cell].textContent=word))
 })
 }
-function drawOpen() {
-const list = at("open")
-const { open } = replica
-const shown = open.length ? open.map(outputRow) : [{ words: ["", "none", ""] }]
-while (list.childElementCount > shown.length) list.lastElementChild.remove()
-while (list.childElementCount < shown.length) list.append(rowOfWords())
-shown.forEach((row, number) => fillRow(list.children[number], row))
+function drawOpen(){
+const list=at("open")
+const{open}=replica
+const shown=open.length?open.map(outputRow):[{words:["","none",""]}]
+while(list.childElementCount>shown.length)list.lastElementChild.remove()
+while(list.childElementCount<shown.length)list.append(rowOfWords())
+shown.forEach((row,number)=>fillRow(list.children[number],row))
 }
-function drawTimeline() {
-const length = Math.min(Number(at("span").value), replica.records.length)
-const records = Array.from({ length }, (_, age) => replica.records.at(age))
-const { horizon } = replica
-const shown = { records, origins: originsNow(), reachOf: it => replica.reachOf(it), horizon, micros: program?.version > 1 ? 256 : 16 }
+function drawTimeline(){
+const length=Math.min(Number(at("span").value),replica.records.length)
+const records=Array.from({length},(_,age)=>replica.records.at(age))
+const{horizon}=replica
+const shown={records,origins:originsNow(),reachOf:it=>replica.reachOf(it),horizon,micros:program?.version>1?256:16}
 timeline.draw(shown)
-at("timeline").setAttribute("aria-label", inWords(shown, replica.late))
+at("timeline").setAttribute("aria-label",inWords(shown,replica.late))
 }
-function tellLate() {
-const { late, lastLate } = replica
-const text = late
+function tellLate(){
+const{late,lastLate}=replica
+const text=late
 ? `${late} came late. The last: record ${lastLate.place}, ${tagText(lastLate.back)} back to ${tagText(lastLate.record)}.`
-: "No record came late."
-if (!mayTellLate || at("late").textContent === text) return
-put("late", text)
-at("late").classList.toggle("some", late > 0)
-mayTellLate = false
-setTimeout(() => {
-mayTellLate = true
+:"No record came late."
+if(!mayTellLate||at("late").textContent===text)return
+put("late",text)
+at("late").classList.toggle("some",late>0)
+mayTellLate=false
+setTimeout(()=>{
+mayTellLate=true
 touch()
-}, PAUSE)
+},PAUSE)
 }
 const rowsText = count => `${count} ${count === 1 ? "row" : "rows"}`
-function tellAgain() {
-const { rollbacks, again, lastRollback, skipped } = replica
+function tellAgain(){
+const{rollbacks,again,lastRollback,skipped}=replica
 const lost = skipped ? ` ${skipped} lines were left out, and rollbacks among these are not counted.` : ""
-if (!steps) return put("again", "")
+if(!steps)return put("again","")
 if (!lastRollback) return put("again", `No rollback so far.${lost}`)
-const { from, to, again: last } = lastRollback
+const{from,to,again:last}=lastRollback
 const back = `Rolled back from ${tagText(from)} to ${to ? tagText(to) : "the start"}: ${rowsText(last)} again.`
 put("again", `${back} ${rollbacks} so far, ${rowsText(again)} in all.${lost}`)
 }
-function watchSteps() {
-steps?.stop().catch(() => {})
+function watchSteps(){
+steps?.stop().catch(()=>{})
 replica.clearSteps()
-steps = at("steps").checked ? client.watch("steps", push => {
+steps=at("steps").checked?client.watch("steps",push=>{
 replica.takeStep(push)
 touch()
-}) : null
+}):null
 touch()
 }
-function askOpen() {
+function askOpen(){
 touch()
-if (isAsking) return
-isAsking = true
-setTimeout(() => {
-isAsking = false
-replica.askOpen(client).then(touch, () => {})
-}, PAUSE)
+if(isAsking)return
+isAsking=true
+setTimeout(()=>{
+isAsking=false
+replica.askOpen(client).then(touch,()=>{})
+},PAUSE)
 }
-const TAKES = {
-log: it => replica.takeRecord(it),
-released: it => replica.takeReleased(it),
-vars: it => replica.takeVars(it),
-horizon: it => replica.takeHorizon(it),
-breach: it => replica.takeBreach(it),
+const TAKES={
+log:it=>replica.takeRecord(it),
+released:it=>replica.takeReleased(it),
+vars:it=>replica.takeVars(it),
+horizon:it=>replica.takeHorizon(it),
+breach:it=>replica.takeBreach(it),
 }
-function connect() {
-if (client) client.onstate = null
+function connect(){
+if(client)client.onstate=null
 client?.close()
-const scheme = location.protocol === "https:" ? "wss:" : "ws:"
+const scheme=location.protocol==="https:"?"wss:":"ws:"
 const made = new Client(`${scheme}//${location.host}/ws`, { token })
-const start = () => made === client && begin().catch(() => {})
-made.onstate = turn
-made.ready.then(start, () => {})
+const start=()=>made===client&&begin().catch(()=>{})
+made.onstate=turn
+made.ready.then(start,()=>{})
 made.onReopened(start)
-client = made
+client=made
 turn("connecting")
 }
-function turn(state) {
-const isRefused = client.error instanceof Refused
-put("state", isRefused ? "refused" : state)
-at("state").dataset.state = state
-put("rights", isRefused ? "This host wants a token, or another one." : "")
-at("rights").className = isRefused ? "bad" : ""
-if (isRefused) at("you").hidden = false
-if (state === "closed" && !isRefused) setTimeout(connect, PAUSE)
-if (state === "connecting") for (const watch of watches.splice(0)) watch.stop().catch(() => {})
+function turn(state){
+const isRefused=client.error instanceof Refused
+put("state",isRefused?"refused":state)
+at("state").dataset.state=state
+put("rights",isRefused?"This host wants a token, or another one.":"")
+at("rights").className=isRefused?"bad":""
+if(isRefused)at("you").hidden=false
+if(state==="closed"&&!isRefused)setTimeout(connect,PAUSE)
+if(state==="connecting")for(const watch of watches.splice(0))watch.stop().catch(()=>{})
 }
-async function begin() {
+async function begin(){
 replica.clear()
-watches = Object.keys(TAKES).map(what => client.watch(what, push => {
+watches=Object.keys(TAKES).map(what=>client.watch(what,push=>{
 TAKES[what](push)
 askOpen()
 }))
 watchSteps()
 choose("input", client.names.inputs.map((it, number) => [number, `${it.name} (origin ${it.origin})`]))
 askOpen()
-readLimits().catch(() => {})
+readLimits().catch(()=>{})
 if (token !== undefined) put("rights", `This token may send for: ${rightsText(await client.ask(`token ${token}`))}`)
-program = await client.program()
+program=await client.program()
 touch()
 }
 const rightsText = ({ may }) => ({ "*": "all origins", read: "none, it may only read" })[may] ?? `origins ${may}`
-async function readLimits() {
+async function readLimits(){
 const headers = token === undefined ? {} : { Authorization: `Bearer ${token}` }
 const metrics = await (await fetch("/metrics", { headers })).text()
 limits.log = /^warpd_log_records_limit (\d+)/m.exec(metrics)?.[1] ?? ""
 const file = await (await fetch("/program.json", { headers })).json()
-limits.origins = Number(file.origins) || 0
+limits.origins=Number(file.origins)||0
 choose("origin", originsNow().map(origin => [origin, `${origin}`]))
 touch()
 }
-function choose(id, options) {
-const before = at(id).value
-at(id).replaceChildren(...options.map(([value, text]) => new Option(text, value)))
+function choose(id,options){
+const before=at(id).value
+at(id).replaceChildren(...options.map(([value,text])=>new Option(text,value)))
 if (options.some(([value]) => `${value}` === before)) at(id).value = before
 }
-function showFields() {
-for (const part of document.querySelectorAll("[data-of]")) {
-part.hidden = !part.dataset.of.split(" ").includes(at("kind").value)
-for (const field of part.querySelectorAll("input")) field.disabled = part.hidden
+function showFields(){
+for(const part of document.querySelectorAll("[data-of]")){
+part.hidden=!part.dataset.of.split(" ").includes(at("kind").value)
+for(const field of part.querySelectorAll("input"))field.disabled=part.hidden
 }
 }
 const digits = id => `${BigInt(at(id).value)}`
-function lineOfForm() {
+function lineOfForm(){
 const tag = `${digits("time")} ${digits("micro")}`
-const input = Number(at("input").value)
-const kind = at("kind").value
+const input=Number(at("input").value)
+const kind=at("kind").value
 if (kind === "event") return `event ${client.names.owner(input)} ${tag} ${input} ${digits("value")}`
 if (kind === "withdraw") return `withdraw ${at("origin").value} ${tag}`
 return `announce ${at("origin").value} ${tag} ${digits("events")} ${digits("withdrawn")}`
 }
-function warn() {
-const kind = at("kind").value
-const origin = kind === "event" ? client.names.inputs[at("input").value]?.origin : Number(at("origin").value)
-const word = kind !== "announce" && at("time").value && replica.origins.get(origin)?.announced
-const isLate = word && orderOf({ time: at("time").value, micro: at("micro").value }, word) < 0
+function warn(){
+const kind=at("kind").value
+const origin=kind==="event"?client.names.inputs[at("input").value]?.origin:Number(at("origin").value)
+const word=kind!=="announce"&&at("time").value&&replica.origins.get(origin)?.announced
+const isLate=word&&orderOf({time:at("time").value,micro:at("micro").value},word)<0
 put("warning", isLate ? `Origin ${origin} announced ${tagText(word)}: this breaks its word.` : "")
 }
-function tellAnswer(text, kind = "") {
-put("answer", text)
-at("answer").className = kind
+function tellAnswer(text,kind=""){
+put("answer",text)
+at("answer").className=kind
 }
-async function send(event) {
+async function send(event){
 event.preventDefault()
-try {
-const line = lineOfForm()
+try{
+const line=lineOfForm()
 tellAnswer(`${line}: sent, no answer yet`)
 tellAnswer(`${line}: ${answerText(await client.ask(line))}`, "good")
-} catch (error) {
-if (error.number === 13) at("you").hidden = false
+}catch(error){
+if(error.number===13)at("you").hidden=false
 tellAnswer(error instanceof Refused ? `${error.message}. Nothing was changed.` : `not sent: ${error.message}`, "bad")
 }
 }
-function countFromLog() {
-const tag = { time: Number(at("time").value), micro: Number(at("micro").value) }
-const counts = replica.countBefore(Number(at("origin").value), tag)
+function countFromLog(){
+const tag={time:Number(at("time").value),micro:Number(at("micro").value)}
+const counts=replica.countBefore(Number(at("origin").value),tag)
 if (!counts) return tellAnswer(`The log is longer than the ${MOST} records that this page keeps: count elsewhere.`, "bad")
-at("events").value = counts.events
-at("withdrawn").value = counts.withdrawn
+at("events").value=counts.events
+at("withdrawn").value=counts.withdrawn
 }
-at("send").addEventListener("submit", send)
-at("kind").addEventListener("change", showFields)
-at("count").addEventListener("click", countFromLog)
-at("send").addEventListener("input", touch)
-at("steps").addEventListener("change", watchSteps)
-for (const id of ["span", "words"]) at(id).addEventListener("change", touch)
-at("who").addEventListener("submit", event => {
+at("send").addEventListener("submit",send)
+at("kind").addEventListener("change",showFields)
+at("count").addEventListener("click",countFromLog)
+at("send").addEventListener("input",touch)
+at("steps").addEventListener("change",watchSteps)
+for(const id of ["span","words"])at(id).addEventListener("change",touch)
+at("who").addEventListener("submit",event=>{
 event.preventDefault()
-token = at("token").value || undefined
+token=at("token").value||undefined
 connect()
 })
-window.addEventListener("resize", touch)
-matchMedia("(prefers-color-scheme: dark)").addEventListener("change", touch)
+window.addEventListener("resize",touch)
+matchMedia("(prefers-color-scheme: dark)").addEventListener("change",touch)
 showFields()
 connect()
 </script>
