@@ -5,15 +5,15 @@ use Rattle.warp_run.specs.Stack.{Stacked}
 use Rattle.warp_run.proofs.Marks.{IsRest, has_newest, in_front, without_newest}
 use Rattle.warp_run.proofs.history.History.drop_newest.Goals as goal
 
-pub pop-in-Some-requires : goal.pop-in-Some-requires
-pop-in-Some-requires c =
+pub pop-requires-in-Some : goal.pop-requires-in-Some
+pop-requires-in-Some c =
     let h = c.self.inside in
     let has = has_newest h.values.width h.marks.items c.pop.new.self.items c.in-Some.mark h.values.values (take h.entries_used h.entries.items)
     c.in-Some.ensures.items c.self.invariant.1 in
     has.vars
 
-pub overflow_sub-self-in-Some : goal.overflow_sub-self-in-Some
-overflow_sub-self-in-Some c =
+pub overflow_sub-self : goal.overflow_sub-self
+overflow_sub-self c =
     let h = c.self.inside in
     let has = has_newest h.values.width h.marks.items c.pop.new.self.items c.in-Some.mark h.values.values (take h.entries_used h.entries.items)
     c.in-Some.ensures.items c.self.invariant.1 in
