@@ -242,16 +242,6 @@ length-saves_of width saves (m ∷ ms) values entries =
     (drop width values) (drop m.pending entries) in
     omega arith
 
--- each has as many values
-pub values_kept : (width : ℕ) (ms : List Mark) (values : List ℤ) (entries : List Waiting) → AreKept width ms values entries
-    → length values ≡ length ms * width
-values_kept width [] values entries h = let none = ap length h.0 in omega arith
-values_kept width (m ∷ ms) values entries h =
-    let rest = values_kept width ms (drop width values) (drop m.pending entries) h.4 in
-    let left = length-drop width values in
-    let within = h.0 in
-    omega arith
-
 -- ---- room
 
 -- they have as many entries as the list holds
