@@ -30,7 +30,7 @@ invariant_of-self c =
     let entries_new = c.write.new.list.ok.0 in (
       omega arith,
       subst (λ (s : Stacked). AreKept s.width c.push_reserved.new.self.items s.values
-      (take (h.entries_used + length c.args.entries.now) c.write.new.list.items)) (sym c.push.ensures) more.kept,
+          (take (h.entries_used + length c.args.entries.now) c.write.new.list.items)) (sym c.push.ensures) more.kept,
     )
 
 pub returns-clause-saves : goal.returns-clause-saves

@@ -31,7 +31,7 @@ invariant_of-self c =
     let entries = c.self.invariant.0 in (
       omega arith,
       subst (λ (s : Stacked). AreKept s.width c.pop.new.self.items s.values (take (h.entries_used - c.in-Some.mark.pending) h.entries.items))
-      (sym c.pop-in-Some.ensures) rest.kept,
+          (sym c.pop-in-Some.ensures) rest.kept,
     )
 
 pub returns-in-Some : goal.returns-in-Some
