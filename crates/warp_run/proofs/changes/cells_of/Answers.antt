@@ -1,4 +1,4 @@
-use Rattle.std.proofs.Common.{◌≡◌, ◌+◌, ◌∙◌, ap, sym, arith}
+use Rattle.std.proofs.Common.{arith}
 use Rattle.warp_run.proofs.Replaced.{cells_in-next, cells_in-some}
 use Rattle.warp_run.proofs.changes.cells_of.Goals as goal
 

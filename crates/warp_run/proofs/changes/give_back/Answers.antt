@@ -1,5 +1,5 @@
 -- one more is given back
-use Rattle.std.proofs.Common.{rules, ◌≡◌, ◌≤◌, ◌-◌, ◌∷◌, ◌++◌, [], length, take, drop, vec_len, ap, ◌∙◌}
+use Rattle.std.proofs.Common.{rules, ◌-◌, drop, ap, ◌∙◌}
 use Rattle.warp_run.specs.Stack.{given_back}
 use Rattle.warp_run.proofs.Replaced.{one_back, front_kept}
 use Rattle.warp_run.proofs.changes.give_back.Goals as goal

@@ -1,7 +1,5 @@
 -- part after part is replaced
-use Rattle.std.proofs.Common.{rules, ◌≡◌, ◌+◌, ◌≤◌, ◌<◌, ◌-◌, ◌++◌, List, [], ◌∷◌, length, take, drop, vec_len, vec_capacity, ℕ, ℤ, refl, sym, ap, ◌∙◌, subst, arith}
-use Rattle.warp_run.specs.Stack.{given_back}
-use Rattle.warp_run.specs.declared.changes.Cell.{Cell}
+use Rattle.std.proofs.Common.{◌-◌, ◌∙◌, arith}
 use Rattle.warp_run.proofs.Replaced.{back_twice, same_front}
 use Rattle.warp_run.proofs.changes.replace.Goals as goal
 

@@ -1,5 +1,5 @@
 -- what is kept gives back what the image had
-use Rattle.std.proofs.Common.{rules, ◌≡◌, ◌+◌, ◌≤◌, ◌<◌, ◌-◌, ◌++◌, List, [], ◌∷◌, length, take, vec_len, vec_capacity, ℕ, ℤ, pos, set, refl, sym, ap, ◌∙◌, subst, arith}
+use Rattle.std.proofs.Common.{rules, ◌≡◌, ◌+◌, ◌-◌, ◌++◌, List, [], ◌∷◌, take, pos, set, ap, ◌∙◌, arith}
 use Rattle.std.specs.Prelude.{slice_index_or}
 use Rattle.std.proofs.lemmas.List.{append_assoc, take_more_same}
 use Rattle.warp_run.specs.Stack.{given_back}

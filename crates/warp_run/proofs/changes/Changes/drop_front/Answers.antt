@@ -1,5 +1,5 @@
 -- the cells of the first steps go
-use Rattle.std.proofs.Common.{◌≡◌, ◌≤◌, ◌<◌, ◌+◌, ◌-◌, ◌*◌, ◌∷◌, ◌++◌, [], ℕ, ℤ, List, length, take, drop, ap, sym, subst, ◌∙◌, arith, vec_capacity}
+use Rattle.std.proofs.Common.{◌≡◌, ◌≤◌, ◌<◌, ◌+◌, ◌-◌, ◌*◌, ℕ, List, length, take, drop, ap, sym, subst, ◌∙◌, arith, vec_capacity}
 use Rattle.std.proofs.lemmas.List.{length-drop, take_all}
 use Rattle.warp_run.specs.Stack.{Changed, cells_in, free_for, values_of}
 use Rattle.warp_run.specs.declared.changes.Cell.{Cell}

@@ -1,4 +1,4 @@
-use Rattle.std.proofs.Common.{◌≡◌, ◌≤◌, ◌<◌, ◌-◌, ℤ, List, length, drop, ap, sym, subst, ◌∙◌, arith}
+use Rattle.std.proofs.Common.{◌≤◌, ◌<◌, ◌-◌, length, drop, ap, sym, subst, ◌∙◌}
 use Rattle.warp_run.specs.Stack.{Changed}
 use Rattle.warp_run.proofs.Replaced.{newest_last}
 use Rattle.warp_run.proofs.changes.Changes.last.Goals as goal

@@ -1,5 +1,5 @@
 -- what the newest wrote over is given back
-use Rattle.std.proofs.Common.{◌≡◌, ◌≤◌, ◌<◌, ◌-◌, ◌∷◌, ◌++◌, [], ℕ, ℤ, List, length, take, drop, ap, sym, subst, ◌∙◌, arith, vec_capacity}
+use Rattle.std.proofs.Common.{◌≡◌, ◌-◌, ℕ, ℤ, List, length, take, drop, ap, sym, ◌∙◌, arith, vec_capacity}
 use Rattle.std.proofs.lemmas.List.{with_items_is}
 use Rattle.std.specs.Vec.{with_items}
 use Rattle.warp_run.specs.Stack.{Changed, free_for, given_back, values_of}

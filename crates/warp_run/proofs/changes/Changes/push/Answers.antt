@@ -1,5 +1,5 @@
 -- what the new one writes over is kept
-use Rattle.std.proofs.Common.{◌≡◌, ◌≤◌, ◌<◌, ◌+◌, ◌-◌, ◌∷◌, ◌++◌, [], ℕ, ℤ, List, length, length-append, take, drop, ap, sym, subst, ◌∙◌, arith, vec_capacity}
+use Rattle.std.proofs.Common.{◌≡◌, ◌+◌, ◌-◌, ◌∷◌, ◌++◌, [], ℕ, ℤ, List, length, length-append, ap, sym, ◌∙◌, arith, vec_capacity}
 use Rattle.std.proofs.lemmas.List.{with_items_is}
 use Rattle.std.specs.Vec.{with_items}
 use Rattle.warp_run.specs.Stack.{Changed, cells_in, free_for, given_back, values_of}

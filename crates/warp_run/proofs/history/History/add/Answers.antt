@@ -5,7 +5,7 @@ use Rattle.warp_run.specs.History.{AreKept, Room, Saves, saved_at, saves_of}
 use Rattle.warp_run.specs.Stack.{Stacked}
 use Rattle.warp_run.specs.declared.history.Mark.{Mark}
 use Rattle.warp_run.specs.declared.history.History.TheInside.{Inside}
-use Rattle.warp_run.proofs.Marks.{HasMore, has_more, room_for, room_of}
+use Rattle.warp_run.proofs.Marks.{has_more, room_for, room_of}
 use Rattle.warp_run.proofs.history.History.add.Goals as goal
 
 pub invariant_of-self : goal.invariant_of-self

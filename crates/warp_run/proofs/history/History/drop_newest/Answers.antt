@@ -2,7 +2,7 @@ use Rattle.std.proofs.Common.{◌-◌, [], length, take, drop, arith, ap, refl, 
 use Rattle.std.proofs.lemmas.List.{length-take-le}
 use Rattle.warp_run.specs.History.{AreKept, Saves, saves_of}
 use Rattle.warp_run.specs.Stack.{Stacked}
-use Rattle.warp_run.proofs.Marks.{IsRest, has_newest, in_front, without_newest}
+use Rattle.warp_run.proofs.Marks.{has_newest, in_front, without_newest}
 use Rattle.warp_run.proofs.history.History.drop_newest.Goals as goal
 
 pub pop-requires-in-Some : goal.pop-requires-in-Some

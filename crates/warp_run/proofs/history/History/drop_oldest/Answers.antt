@@ -1,13 +1,12 @@
 -- mark by mark one more is cut off, and what is left moves to the front
-use Rattle.std.proofs.Common.{◌≡◌, ◌≤◌, ◌*◌, ℕ, ◌+◌, ◌-◌, length, take, drop, Some, ap, sym, subst, ◌∙◌, refl, arith, [], None, get_or}
+use Rattle.std.proofs.Common.{◌≡◌, ◌≤◌, ◌*◌, ℕ, ◌+◌, ◌-◌, length, take, drop, Some, ap, sym, subst, ◌∙◌, refl, arith, []}
 use Rattle.std.specs.Prelude.{slice_get}
-use Rattle.std.proofs.lemmas.List.{length-take-le, take_all}
-use Rattle.std.proofs.lemmas.Option.{slice_get_read, slice_get-get_or}
+use Rattle.std.proofs.lemmas.List.{take_all}
+use Rattle.std.proofs.lemmas.Option.{slice_get_read}
 use Rattle.warp_run.specs.History.{Saves, saves_of}
 use Rattle.warp_run.specs.Stack.{Stacked}
-use Rattle.warp_run.specs.declared.history.Mark.{Mark}
 use Rattle.warp_run.proofs.Marks.{length-saves_of}
-use Rattle.warp_run.proofs.MarksCut.{AreLeft, IsCutOff, cut_more, cut_none, cut_off, more_entries}
+use Rattle.warp_run.proofs.MarksCut.{IsCutOff, cut_more, cut_none, cut_off}
 use Rattle.warp_run.proofs.history.History.drop_oldest.Goals as goal
 
 pub loop-at-init : goal.loop-at-init

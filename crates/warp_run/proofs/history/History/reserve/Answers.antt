@@ -1,5 +1,5 @@
 -- each list has room for what the state has
-use Rattle.std.proofs.Common.{[], ap, arith, length, take, sym, ◌∙◌}
+use Rattle.std.proofs.Common.{[], ap, arith, length, take, sym}
 use Rattle.std.proofs.lemmas.List.{length-take-le}
 use Rattle.warp_run.specs.History.{Room, saves_of}
 use Rattle.warp_run.proofs.Marks.{room_for, stays_in_use}
