@@ -160,6 +160,8 @@ keeps_room x = record { history = refl; outputs = refl; aside = refl; aside_outp
 pub same_room : (w v : Warp) → v.arena.room ≡ w.arena.room → KeepsRoom w.tip v.tip → v.given ≡ w.given → room_in v ≡ room_in w
 same_room w v arena tip given = λ i.
     (arena i).nodes ∷ (arena i).hints ∷ (arena i).own_hints
-    ∷ (tip.history i).marks ∷ (tip.history i).values ∷ (tip.history i).entries ∷ tip.outputs i
-    ∷ (tip.aside i).marks ∷ (tip.aside i).values ∷ (tip.aside i).entries ∷ tip.aside_outputs i
+    ∷ (tip.history i).marks ∷ (tip.history i).entries
+    ∷ (tip.history i).values.values ∷ (tip.history i).values.cells ∷ (tip.history i).values.steps ∷ tip.outputs i
+    ∷ (tip.aside i).marks ∷ (tip.aside i).entries
+    ∷ (tip.aside i).values.values ∷ (tip.aside i).values.cells ∷ (tip.aside i).values.steps ∷ tip.aside_outputs i
     ∷ vec_capacity (given i) ∷ []

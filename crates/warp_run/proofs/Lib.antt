@@ -30,3 +30,5 @@ pub mod TurnsGoing
 pub mod TurnsRejoined
 pub mod TurnsRow
 pub mod SentTimelines
+pub mod Replaced
+pub mod ListsMoved

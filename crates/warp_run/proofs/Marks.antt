@@ -8,7 +8,7 @@ use Rattle.warp_tag.specs.Limits.{most_pending}
 use Rattle.warp_step.specs.Snapshot.{AreInOrder, Snapshot}
 use Rattle.warp_step.specs.declared.pending.Waiting.{Waiting}
 use Rattle.warp_run.specs.declared.history.Mark.{Mark}
-use Rattle.warp_run.specs.History.{Saved, Saves, Room, AreKept, HasRoomFor, entries_in, saved_at, saves_of, values_in}
+use Rattle.warp_run.specs.History.{Saved, Saves, Room, AreKept, HasRoomFor, entries_in, saved_at, saves_of}
 
 -- the checkpoint of a mark, with these values and entries
 abbrev pub save_of : Mark → List ℤ → List Waiting → Saved
@@ -184,15 +184,14 @@ pub record IsRest (width : ℕ) (marks ms : List Mark) (values new_values : List
 
 -- so it is with lists that are cut by what the newest has
 pub without_newest : (width : ℕ) (marks ms : List Mark) (m : Mark) (values new_values : List ℤ)
-    (entries new_entries : List Waiting) (n k : ℕ) → HasNewest width marks ms m values entries → n ≡ length values → k ≡ length entries
-    → new_values ≡ take (n - width) values → new_entries ≡ take (k - m.pending) entries
+    (entries new_entries : List Waiting) (k : ℕ) → HasNewest width marks ms m values entries → k ≡ length entries
+    → new_values ≡ take (length values - width) values → new_entries ≡ take (k - m.pending) entries
     → IsRest width marks ms values new_values entries new_entries
-without_newest width marks ms m values new_values entries new_entries n k h all_values all_entries cut_values cut_entries =
+without_newest width marks ms m values new_values entries new_entries k h all_entries cut_values cut_entries =
     let rest : IsRest width marks ms values (take (length values - width) values) entries (take (length entries - m.pending) entries) =
     record { kept = h.kept; saves = sym (ap (drop 1) h.saves) } in
-    let first : new_values ≡ take (length values - width) values = cut_values ∙ ap (λ (i : ℕ). take (i - width) values) all_values in
     let second : new_entries ≡ take (length entries - m.pending) entries = cut_entries ∙ ap (λ (i : ℕ). take (i - m.pending) entries) all_entries in
-    rw (first, second) rest
+    rw (cut_values, second) rest
 
 last_is : {X : Type 0} (xs : List X) (x : X) → slice_get xs (length xs - 1) ≡ Some x → xs ≡ take (length xs - 1) xs ++ x ∷ []
 last_is {X = X} xs x h =
@@ -245,18 +244,7 @@ length-saves_of width saves (m ∷ ms) values entries =
 
 -- ---- room
 
--- they have as many values and entries as the lists hold
-values_kept : (width : ℕ) (saves : List Saved) (ms : List Mark) (values : List ℤ) (entries : List Waiting) → AreKept width ms values entries
-    → values_in (saves_of width saves ms values entries) ≡ length values + values_in saves
-values_kept width saves [] values entries h = let none = ap length h.0 in omega arith
-values_kept width saves (m ∷ ms) values entries h =
-    let rest = values_kept width (save_of m (take width values) (take m.pending entries) ∷ saves) ms
-    (drop width values) (drop m.pending entries) h.4 in
-    let first = length-take-le width values h.0 in
-    let left = length-drop width values in
-    let within = h.0 in
-    omega arith
-
+-- they have as many entries as the list holds
 entries_kept : (width : ℕ) (saves : List Saved) (ms : List Mark) (values : List ℤ) (entries : List Waiting) → AreKept width ms values entries
     → entries_in (saves_of width saves ms values entries) ≡ length entries + entries_in saves
 entries_kept width saves [] values entries h = let none = ap length h.1 in omega arith
@@ -269,24 +257,20 @@ entries_kept width saves (m ∷ ms) values entries h =
     omega arith
 
 -- so there is room for one more where each list has it, and only there
-module _ (width : ℕ) (marks : List Mark) (values : List ℤ) (entries : List Waiting) (room : Room) (s : Snapshot) (h : AreKept width marks values entries)
-    {all : Saves} (is : record { width = width; saves = saves_of width [] marks values entries; room = room } ≡ all) where
-  pub room_for : length marks < room.marks → length values + length s.vars ≤ room.values → length entries + length s.pending ≤ room.entries
-      → HasRoomFor all s
+module _ (width : ℕ) (marks : List Mark) (values : List ℤ) (entries : List Waiting) (room : Room) (free : ℕ) (s : Snapshot)
+    (h : AreKept width marks values entries)
+    {all : Saves} (is : record { width = width; saves = saves_of width [] marks values entries; room = room; free = free } ≡ all) where
+  pub room_for : length marks < room.marks → length s.vars ≤ free → length entries + length s.pending ≤ room.entries → HasRoomFor all s
   room_for more_marks more_values more_entries =
       let all_marks = length-saves_of width [] marks values entries in
-      let all_values = values_kept width [] marks values entries h in
       let all_entries = entries_kept width [] marks values entries h in
-      subst (λ (z : Saves). HasRoomFor z s) is (record { marks = omega arith; values = omega arith; entries = omega arith })
+      subst (λ (z : Saves). HasRoomFor z s) is (record { marks = omega arith; values = more_values; entries = omega arith })
 
-  pub room_of : HasRoomFor all s
-      → (length marks < room.marks) × (length values + length s.vars ≤ room.values) × (length entries + length s.pending ≤ room.entries)
+  pub room_of : HasRoomFor all s → (length marks < room.marks) × (length s.vars ≤ free) × (length entries + length s.pending ≤ room.entries)
   room_of has =
       let r = subst (λ (z : Saves). HasRoomFor z s) (sym is) has in
       let few_marks = r.marks in
-      let few_values = r.values in
       let few_entries = r.entries in
       let all_marks = length-saves_of width [] marks values entries in
-      let all_values = values_kept width [] marks values entries h in
       let all_entries = entries_kept width [] marks values entries h in
-      (omega arith, omega arith, omega arith)
+      (omega arith, r.values, omega arith)

@@ -2,9 +2,7 @@
 use Rattle.std.proofs.Common.{◌≡◌, ℕ, ℤ, zero, suc, ◌+◌, ◌-◌, ◌<◌, ◌≤◌, true, false, cond, List, [], ◌∷◌, ◌++◌, length, take, drop, Some, None, ap, sym, subst, ◌∙◌, refl, arith}
 use Rattle.std.proofs.Common.{append_assoc, take-append-drop, length-append, length-drop}
 use Rattle.std.specs.Prelude.{slice_get}
-use Rattle.std.proofs.lemmas.List.{append-nil, take_at, drop_at, take_all, drop_all, take-take, drop-take, drop-drop, length-take-le}
-use Rattle.std.proofs.lemmas.List.Edits.{take-paste}
-use lib.Seq.{paste}
+use Rattle.std.proofs.lemmas.List.{append-nil, take_at, drop_at, take_all, drop_all, take-take, drop-drop, length-take-le}
 use Rattle.std.proofs.Common.{get_or}
 use Rattle.std.proofs.lemmas.Option.{slice_get_read, slice_get_within}
 use Rattle.warp_tag.specs.Moment.{Moment}
@@ -15,17 +13,6 @@ use Rattle.warp_run.specs.declared.history.Done.{Done}
 use Rattle.warp_run.specs.declared.history.Mark.{Mark}
 use Rattle.warp_run.specs.History.{Saved, AreKept, before, down_to, newest, saves_of}
 use Rattle.warp_run.proofs.Marks.{length-saves_of, save_of}
-
--- what was moved to the front
-pub moved_front : {X : Type 0} (xs : List X) (from to : ℕ) → from ≤ to → to ≤ length xs
-    → take (to - from) (paste xs 0 (drop from xs) (to - from)) ≡ drop from (take to xs)
-moved_front xs from to order within =
-    let left = length-drop from xs in
-    let whole : from + (to - from) ≡ to = omega arith in
-    let none : 0 + (to - from) ≡ to - from = omega arith in
-    ap (λ (n : ℕ). take n (paste xs 0 (drop from xs) (to - from))) (sym none)
-    ∙ take-paste xs 0 (drop from xs) (to - from) (omega arith) (omega arith)
-    ∙ sym (drop-take from (to - from) xs) ∙ ap (λ (n : ℕ). drop from (take n xs)) whole
 
 -- behind others
 saves_on : (width : ℕ) (saves : List Saved) (ms : List Mark) (values : List ℤ) (entries : List Waiting)

@@ -150,7 +150,7 @@ outputs_take n rows =
 
 -- from one front back to the newest checkpoint before a tag, which stands for so much
 pub record Returns (x y : Tip) (tag : Moment) (c : Done) : Type 0 where
-  pub history : y.history ≡ record x.history { saves = before tag x.history.saves }
+  pub history : y.history ≡ record x.history { saves = before tag x.history.saves; free = y.history.free }
   pub aside_width : y.aside.history.width ≡ x.aside.history.width
   pub aside : (y.aside.history.saves ≡ []) ⊎ KeepsFrom (set_aside tag x.history.saves []) x.outputs.items y.aside
   pub newest : newest y.history.saves ≡ Some c

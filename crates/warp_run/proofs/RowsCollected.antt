@@ -174,11 +174,11 @@ module _ (P : Program) (E : List Event) (x : Tip) (done : List Row) (h : HasExec
 
   -- the base is what is executed
   pub base_here : (y : Tip) → y ≡ record x { due = x.rows; base = x.rows; floor = x.last; history = y.history; aside = a }
-      → y.history ≡ record x.history { saves = [] } → HasExecuted P E y done
+      → y.history ≡ record x.history { saves = []; free = y.history.free } → HasExecuted P E y done
   base_here y is history =
       let rows = h.rows in
       let all : take x.rows done ≡ done = take_all x.rows done (omega arith) in
-      let made : HasExecuted P E (record x { due = x.rows; base = x.rows; floor = x.last; history = record x.history { saves = [] }; aside = a }) done =
+      let made : HasExecuted P E (record x { due = x.rows; base = x.rows; floor = x.last; history = record x.history { saves = []; free = y.history.free }; aside = a }) done =
       record {
         begin = h.begin;
         rows = h.rows;
@@ -202,13 +202,13 @@ module _ (P : Program) (E : List Event) (x : Tip) (done : List Row) (h : HasExec
   -- or a checkpoint
   pub base_at : (below : Moment) (c : Saved) (others : List Saved) (d : Done) (y : Tip) → before below x.history.saves ≡ c ∷ others → d ≡ c.done
       → y ≡ record x { base = d.rows; floor = d.last; history = y.history; aside = a }
-      → y.history ≡ record x.history { saves = down_to below x.history.saves } → HasExecuted P E y done
+      → y.history ≡ record x.history { saves = down_to below x.history.saves; free = y.history.free } → HasExecuted P E y done
   base_at below c others d y is same made history =
       let down = from_down x.base P done below x.history.saves c others h.saved is in
       let there = saved_there x.base P done below x.history.saves c others h.saved is in
       let far : reach c.done.rows (down_to below x.history.saves) ≡ reach x.base x.history.saves =
       reach_down below x.history.saves c others c.done.rows x.base is in
-      let at : HasExecuted P E (record x { base = c.done.rows; floor = c.done.last; history = record x.history { saves = down_to below x.history.saves }; aside = a }) done =
+      let at : HasExecuted P E (record x { base = c.done.rows; floor = c.done.last; history = record x.history { saves = down_to below x.history.saves; free = y.history.free }; aside = a }) done =
       record {
         begin = h.begin;
         rows = h.rows;
@@ -232,9 +232,9 @@ module _ (P : Program) (E : List Event) (x : Tip) (done : List Row) (h : HasExec
 
   -- or stays
   pub base_stays : (below : Moment) (y : Tip) → newest (before below x.history.saves) ≡ None → y ≡ record x { history = y.history; aside = a }
-      → y.history ≡ record x.history { saves = down_to below x.history.saves } → HasExecuted P E y done
+      → y.history ≡ record x.history { saves = down_to below x.history.saves; free = y.history.free } → HasExecuted P E y done
   base_stays below y bare made history =
-      let at : HasExecuted P E (record x { aside = a }) done =
+      let at : HasExecuted P E (record x { history = record x.history { free = y.history.free }; aside = a }) done =
       record {
         begin = h.begin;
         rows = h.rows;
@@ -253,7 +253,8 @@ module _ (P : Program) (E : List Event) (x : Tip) (done : List Row) (h : HasExec
         aside = nothing_aside;
         scratch = h.scratch;
       } in
-      let all : y.history ≡ x.history = history ∙ ap (λ (cs : List Saved). record x.history { saves = cs }) (down_all below x.history.saves bare) in
+      let all : y.history ≡ record x.history { free = y.history.free } =
+      history ∙ ap (λ (cs : List Saved). record x.history { saves = cs; free = y.history.free }) (down_all below x.history.saves bare) in
       subst (λ (f : Tip). HasExecuted P E f done) (sym (made ∙ ap (λ (z : Saves). record x { history = z; aside = a }) all)) at
 
 -- ---- what is behind then

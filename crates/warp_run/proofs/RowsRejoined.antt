@@ -59,7 +59,7 @@ module _ (P : Program) (E : List Event) (x : Tip) (done : List Row) (h : HasExec
   }
 
   -- where the earliest is let go
-  pub without_earliest : a ≡ record x.aside { history = record x.aside.history { saves = drop 1 x.aside.history.saves } }
+  pub without_earliest : a ≡ record x.aside { history = record x.aside.history { saves = drop 1 x.aside.history.saves; free = a.history.free } }
       → HasExecuted P E (record x { aside = a }) done
   without_earliest is =
       with_aside (ap (λ (b : SetAside). b.history.width) is)
@@ -70,7 +70,7 @@ module _ (P : Program) (E : List Event) (x : Tip) (done : List Row) (h : HasExec
       rest (c ∷ cs) k = k.2
 
   -- where those before a tag are
-  pub without_past : (tag : Moment) → a ≡ record x.aside { history = record x.aside.history { saves = since tag x.aside.history.saves } }
+  pub without_past : (tag : Moment) → a ≡ record x.aside { history = record x.aside.history { saves = since tag x.aside.history.saves; free = a.history.free } }
       → HasExecuted P E (record x { aside = a }) done
   without_past tag is =
       with_aside (ap (λ (b : SetAside). b.history.width) is)
@@ -85,7 +85,7 @@ is_met t s (c ∷ cs) last state = record { earliest = c; others = cs; aside = r
 
 -- so no row is gone over
 pub past_none : (x : Tip) (a : SetAside) (tag : Moment)
-    → a ≡ record x.aside { history = record x.aside.history { saves = since tag x.aside.history.saves } } → ExecutesMore x (record x { aside = a })
+    → a ≡ record x.aside { history = record x.aside.history { saves = since tag x.aside.history.saves; free = a.history.free } } → ExecutesMore x (record x { aside = a })
 past_none x a tag is = record {
   floor = refl;
   rows = λ P E done at. ([], subst (HasExecuted P E (record x { aside = a })) (sym (append-nil done)) (without_past P E x done at a tag is));
@@ -93,7 +93,7 @@ past_none x a tag is = record {
 
 -- and what is executed is all kept at a tag after the last row
 pub lets_go : (P : Program) (E : List Event) (x : Tip) (done : List Row) (a : SetAside) (tag : Moment) → is_after x.last tag ≡ true
-    → a ≡ record x.aside { history = record x.aside.history { saves = since tag x.aside.history.saves } } → HasExecuted P E x done
+    → a ≡ record x.aside { history = record x.aside.history { saves = since tag x.aside.history.saves; free = a.history.free } } → HasExecuted P E x done
     → GoesBack P E tag done (record x { aside = a })
 lets_go P E x done a tag after is h = record {
   left = length done;
@@ -115,10 +115,10 @@ goes_further x y z h k = record {
       (first.0 ++ second.0, subst (HasExecuted P E z) (append_assoc done first.0 second.0) second.1);
 }
 
--- a front that differs in room alone is of the same rows
+-- a front that differs in room, and in what of it is free, is of the same rows
 pub same_rows : (P : Program) (E : List Event) (x y : Tip) (done : List Row)
     → y ≡ record x { outputs = y.outputs; history = y.history; aside = y.aside } → y.outputs.items ≡ x.outputs.items
-    → y.history ≡ record x.history { room = y.history.room } → IsSameAside x.aside y.aside → HasExecuted P E x done → HasExecuted P E y done
+    → y.history ≡ record x.history { room = y.history.room; free = y.history.free } → IsSameAside x.aside y.aside → HasExecuted P E x done → HasExecuted P E y done
 same_rows P E x y done is same history aside h = record {
   begin = h.begin;
   rows = ap (λ (f : Tip). f.rows) is ∙ h.rows;
@@ -145,7 +145,7 @@ same_rows P E x y done is same history aside h = record {
 -- so by it no row is gone over
 pub goes_none : (P : Program) (E : List Event) (x y : Tip) (done : List Row)
     → y ≡ record x { outputs = y.outputs; history = y.history; aside = y.aside } → y.outputs.items ≡ x.outputs.items
-    → y.history ≡ record x.history { room = y.history.room } → IsSameAside x.aside y.aside → HasExecuted P E x done
+    → y.history ≡ record x.history { room = y.history.room; free = y.history.free } → IsSameAside x.aside y.aside → HasExecuted P E x done
     → (rows : List Row) × HasExecuted P E y (done ++ rows)
 goes_none P E x y done is same history aside h =
     ([], subst (HasExecuted P E y) (sym (append-nil done)) (same_rows P E x y done is same history aside h))

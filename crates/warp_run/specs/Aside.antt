@@ -20,7 +20,8 @@ pub record SetAside : Type 0 where
 
 -- the same is aside, whatever room there is
 abbrev pub IsSameAside : SetAside → SetAside → Type 0
-IsSameAside x y = y ≡ record x { history = record x.history { room = y.history.room }; room = y.room }
+IsSameAside x y =
+    y ≡ record x { history = record x.history { room = y.history.room; free = y.history.free }; room = y.room }
 
 -- the outputs behind so many up to so many, of those behind the first so many
 abbrev pub outputs_between : ℕ → List Out → ℕ → ℕ → List Out

@@ -8,6 +8,7 @@ use Rattle.warp_step.specs.Program.{Program}
 use Rattle.warp_step.specs.Snapshot.{Snapshot, AreInOrder, IsStateOf}
 use Rattle.warp_step.specs.Run.{is_after}
 use Rattle.warp_step.specs.declared.pending.Waiting.{Waiting}
+use Rattle.warp_run.specs.Stack.{IsRoomLike, StackRoom, no_values}
 use Rattle.warp_run.specs.declared.history.Done.{Done}
 use Rattle.warp_run.specs.declared.history.Mark.{Mark}
 
@@ -16,26 +17,28 @@ pub record Saved : Type 0 where
   pub done : Done
   pub state : Snapshot
 
--- for how many checkpoints, values of variables and pending entries memory was taken
+-- for how many checkpoints, what of the values of their variables, and how many pending entries memory was taken
 pub record Room : Type 0 where
   pub marks : ℕ
-  pub values : ℕ
+  pub values : StackRoom
   pub entries : ℕ
 
--- of how many variables each has values, the checkpoints, the newest first, and the room for them
+-- of how many variables each has values, the checkpoints, the newest first, the room for them, and how many values one more
+-- may have
 pub record Saves : Type 0 where
   pub width : ℕ
   pub saves : List Saved
   pub room : Room
+  pub free : ℕ
 
 -- no checkpoint, and no room
 abbrev pub no_saves : ℕ → Saves
-no_saves width = record { width = width; saves = []; room = record { marks = 0; values = 0; entries = 0 } }
-
--- how many values all of these have
-abbrev pub values_in : List Saved → ℕ
-values_in [] = 0
-values_in (c ∷ cs) = length c.state.vars + values_in cs
+no_saves width = record {
+  width = width;
+  saves = [];
+  room = record { marks = 0; values = (no_values width).room; entries = 0 };
+  free = 0;
+}
 
 -- how many entries are pending in all of these
 abbrev pub entries_in : List Saved → ℕ
@@ -45,13 +48,13 @@ entries_in (c ∷ cs) = length c.state.pending + entries_in cs
 -- there is room for one more checkpoint, of this state: for its values and its entries
 pub record HasRoomFor (h : Saves) (s : Snapshot) : Type 0 where
   pub marks : length h.saves < h.room.marks
-  pub values : values_in h.saves + length s.vars ≤ h.room.values
+  pub values : length s.vars ≤ h.free
   pub entries : entries_in h.saves + length s.pending ≤ h.room.entries
 
 -- there is as much room, or more
 pub record IsAtLeast (least room : Room) : Type 0 where
   pub marks : least.marks ≤ room.marks
-  pub values : least.values ≤ room.values
+  pub values : IsRoomLike least.values room.values
   pub entries : least.entries ≤ room.entries
 
 -- after how many rows at most a checkpoint stands

@@ -1,3 +1,4 @@
+pub mod Stack
 pub mod History
 pub mod Aside
 pub mod Tip

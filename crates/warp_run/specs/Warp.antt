@@ -74,9 +74,12 @@ latest_with tag latest = if is_after latest tag then Some tag else latest
 abbrev pub room_in : Warp → List ℕ
 room_in w =
     w.arena.room.nodes ∷ w.arena.room.hints ∷ w.arena.room.own_hints
-    ∷ w.tip.history.room.marks ∷ w.tip.history.room.values ∷ w.tip.history.room.entries
+    ∷ w.tip.history.room.marks ∷ w.tip.history.room.entries
+    ∷ w.tip.history.room.values.values ∷ w.tip.history.room.values.cells ∷ w.tip.history.room.values.steps
     ∷ vec_capacity w.tip.outputs
-    ∷ w.tip.aside.history.room.marks ∷ w.tip.aside.history.room.values ∷ w.tip.aside.history.room.entries
+    ∷ w.tip.aside.history.room.marks ∷ w.tip.aside.history.room.entries
+    ∷ w.tip.aside.history.room.values.values ∷ w.tip.aside.history.room.values.cells
+    ∷ w.tip.aside.history.room.values.steps
     ∷ w.tip.aside.room
     ∷ vec_capacity w.given ∷ []
 

@@ -1,11 +1,12 @@
 //! What a rollback sets aside: the checkpoints that it drops, with the outputs of the rows between them. Where the run
 //! comes to the tag of one of them in the same state, it is the run that was: it can go on over them.
 ghost use Rattle.std.specs.Prelude.{◌≡◌, ◌+◌, ◌<◌, ◌≤◌, ◌↔◌, ◌⊎◌, ◌∷◌, ◌++◌, IsTrue, IsSomeAnd, List, [], length, drop};
-ghost use Rattle.std.specs.Prelude.{OnErr, OnOk, Some};
+ghost use Rattle.std.specs.Prelude.{IfOk, OnErr, OnOk, Some};
 ghost use Rattle.warp_run.specs.Aside.{IsSameAside, KeepsFrom, outputs_between, set_aside, since};
 ghost use Rattle.warp_run.specs.History.{IsAtLeast, IsOfState, Saved, before, newest, no_saves};
 
-use crate::history::{Done, History, append};
+use crate::history::{Done, History};
+use crate::lists::append;
 use std::alloc::Global;
 use std::marker::Model;
 use warp_step::{Out, State};
@@ -42,15 +43,15 @@ impl Model for Aside {
 
 impl Aside {
     /// Nothing is aside, of a program with so many variables.
-    pub fn new(alloc: Global, width: usize) -> Aside
-        ensures { result ≡ record { history = no_saves width; first = 0; outputs = []; room = 0 } }
+    pub fn new(alloc: Global, width: usize) -> Result<Aside, OutOfMemory>
+        ensures { IfOk result (λ a. a ≡ record { history = no_saves width; first = 0; outputs = []; room = 0 }) }
     {
-        Aside {
-            history: History::new(alloc, width),
+        Ok(Aside {
+            history: History::new(alloc, width)?,
             first: 0,
             outputs: Vec::new(alloc),
             unmet: 0,
-        }
+        })
     }
 
     /// Makes at least as much room for checkpoints as there is among these.
@@ -72,7 +73,9 @@ impl Aside {
 
     /// Drops all that is aside. The room stays as it is.
     pub fn clear(&mut self)
-        ensures { self.new ≡ record self.old { history = record self.old.history { saves = [] } } }
+        ensures { self.new ≡ record self.old {
+          history = record self.old.history { saves = []; free = self.new.history.free };
+        } }
     {
         self.history.clear();
     }
@@ -83,7 +86,8 @@ impl Aside {
     #[inline(always)]
     pub fn take_from(&mut self, tag: Tag, history: &mut History, outputs: &[Out])
         requires { self.old.history.width ≡ history.old.width }
-        ensures left { history.new ≡ record history.old { saves = before tag history.old.saves } }
+        ensures left { history.new ≡
+            record history.old { saves = before tag history.old.saves; free = history.new.free } }
         ensures width { self.new.history.width ≡ self.old.history.width }
         ensures aside { (self.new.history.saves ≡ []) ⊎
             KeepsFrom (set_aside tag history.old.saves []) outputs.now self.new }
@@ -103,7 +107,8 @@ impl Aside {
     #[inline(never)]
     fn take_with_room(&mut self, tag: Tag, history: &mut History, outputs: &[Out])
         requires { self.old.history.width ≡ history.old.width }
-        ensures left { history.new ≡ record history.old { saves = before tag history.old.saves } }
+        ensures left { history.new ≡
+            record history.old { saves = before tag history.old.saves; free = history.new.free } }
         ensures width { self.new.history.width ≡ self.old.history.width }
         ensures aside { (self.new.history.saves ≡ []) ⊎
             KeepsFrom (set_aside tag history.old.saves []) outputs.now self.new }
@@ -125,8 +130,10 @@ impl Aside {
 
     /// Lets go of what is before the tag.
     pub fn let_go_before(&mut self, tag: Tag)
-        ensures { self.new ≡
-            record self.old { history = record self.old.history { saves = since tag self.old.history.saves } } }
+        ensures { self.new ≡ record self.old {
+          history =
+              record self.old.history { saves = since tag self.old.history.saves; free = self.new.history.free };
+        } }
     {
         self.history.drop_before(tag);
     }
@@ -134,8 +141,10 @@ impl Aside {
     /// Lets go of what is before the last row, and answers whether the earliest checkpoint that is left is after this
     /// row, in this state.
     pub fn meets(&mut self, last: Tag, state: &State) -> bool
-        ensures left { self.new ≡
-            record self.old { history = record self.old.history { saves = since last self.old.history.saves } } }
+        ensures left { self.new ≡ record self.old {
+          history =
+              record self.old.history { saves = since last self.old.history.saves; free = self.new.history.free };
+        } }
         ensures met { IsTrue result ↔
             (IsSomeAnd (newest self.new.history.saves) (λ done. done.last ≡ Some last) ×
             IsOfState self.new.history.saves state.now) }
@@ -161,8 +170,10 @@ impl Aside {
     /// Lets go of the earliest checkpoint.
     pub fn let_go_earliest(&mut self)
         requires { 0 < length self.old.history.saves }
-        ensures { self.new ≡
-            record self.old { history = record self.old.history { saves = drop 1 self.old.history.saves } } }
+        ensures { self.new ≡ record self.old {
+          history =
+              record self.old.history { saves = drop 1 self.old.history.saves; free = self.new.history.free };
+        } }
     {
         self.history.drop_newest();
     }

@@ -1,22 +1,18 @@
 //! The checkpoints of a run, in lists that they share: one more is appended to each, and going back cuts them.
-ghost use Rattle.std.specs.Prelude.{◌≡◌, ◌+◌, ◌<◌, ◌≤◌, ◌-◌, ◌↔◌, List, [], ◌∷◌, ◌++◌, length, take, drop, IsTrue};
-ghost use Rattle.std.specs.Prelude.{if◌then◌else◌, Some, None, IfSome, OnOk, vec_len, vec_capacity};
+ghost use Rattle.std.specs.Prelude.{◌≡◌, ◌<◌, ◌≤◌, ◌-◌, ◌↔◌, List, [], ◌∷◌, ◌++◌, length, take, drop, IsTrue};
+ghost use Rattle.std.specs.Prelude.{if◌then◌else◌, Some, None, IfOk, IfSome, OnOk};
 ghost use Rattle.warp_tag.specs.Limits.{most_pending};
 ghost use Rattle.warp_step.specs.Snapshot.{AreInOrder, Snapshot};
 ghost use Rattle.warp_run.specs.Aside.{set_aside, since};
 ghost use Rattle.warp_run.specs.History.{ArePartedBy, HasRoomFor, IsAtLeast, IsOfState, Saved, before, down_to};
 ghost use Rattle.warp_run.specs.History.{newest, no_saves, saved_at};
 
+use crate::lists::{BLOCK, grow, last_of, move_front, write};
+use crate::stack::Stack;
 use std::alloc::Global;
 use std::marker::Model;
 use warp_step::{State, Waiting};
 use warp_tag::{OutOfMemory, Tag};
-
-/// So many items are filled in at once.
-const BLOCK: usize = 64;
-
-/// Up to so many items are written one by one.
-const FEW: usize = 4;
 
 /// How far a run is done.
 #[derive(Clone, Copy)]
@@ -63,110 +59,14 @@ struct Mark {
     lost: u64,
 }
 
-/// Writes items behind so many that are in use.
-#[inline(always)]
-fn write<T: Copy>(list: &mut Vec<T>, used: usize, items: &[T])
-    requires { used + length items.now ≤ vec_len list.old }
-    ensures items { take (used + length items.now) list.new.items ≡ take used list.old.items ++ items.now }
-    ensures len { vec_len list.new ≡ vec_len list.old }
-{
-    copy(&mut list[used..used + items.len()], items);
-}
-
-/// Writes items over as many. Mostly they are few, and a call would cost more than they do.
-#[inline(always)]
-fn copy<T: Copy>(to: &mut [T], items: &[T])
-    requires { length items.now ≡ length to.old }
-    ensures { to.new ≡ items.now }
-{
-    if items.len() > FEW {
-        return copy_many(to, items);
-    }
-    for (at, item) in items.iter().enumerate() {
-        to[at] = *item;
-    }
-}
-
-/// Writes items over as many, in one block.
-#[inline(never)]
-fn copy_many<T: Copy>(to: &mut [T], items: &[T])
-    requires { length items.now ≡ length to.old }
-    ensures { to.new ≡ items.now }
-{
-    to.copy_from_slice(items);
-}
-
-/// Of so many items that are in use the last ones.
-#[inline(always)]
-fn last_of<T>(list: &[T], used: usize, count: usize) -> &[T]
-    requires used { used ≤ length list.now }
-    requires count { count ≤ used }
-    ensures { result.now ≡ drop (length (take used list.now) - count) (take used list.now) }
-{
-    &list[used - count..used]
-}
-
-/// Makes a list at least so long, and fills it up to its room with copies of a block. What is there stays.
-fn grow<T: Copy>(list: &mut Vec<T>, len: usize, block: &[T]) -> Result<(), OutOfMemory>
-    requires { 0 < length block.now }
-    ensures items { take (vec_len list.old) list.new.items ≡ list.old.items }
-    ensures len { OnOk result (len ≤ vec_len list.new) }
-{
-    if len <= list.len() {
-        return Ok(());
-    }
-    list.try_reserve(len - list.len())?;
-    let room = list.capacity();
-    fill(list, room, block)
-}
-
-/// Fills a list up to so many items with copies of a block. What is there stays.
-fn fill<T: Copy>(list: &mut Vec<T>, len: usize, block: &[T]) -> Result<(), OutOfMemory>
-    requires some { 0 < length block.now }
-    requires more { vec_len list.old ≤ len }
-    ensures items { take (vec_len list.old) list.new.items ≡ list.old.items }
-    ensures len { OnOk result (len ≤ vec_len list.new) }
-{
-    while len - list.len() > block.len() {
-        list.extend_from_slice(block)?;
-    }
-    list.extend_from_slice(&block[..len - list.len()])?;
-    Ok(())
-}
-
-/// Moves the items behind the first so many up to so many to the front. No other item is of use after it.
-fn move_front<T: Copy>(list: &mut Vec<T>, from: usize, to: usize)
-    requires order { from ≤ to }
-    requires within { to ≤ vec_len list.old }
-    ensures items { take (to - from) list.new.items ≡ drop from (take to list.old.items) }
-    ensures len { vec_len list.new ≡ vec_len list.old }
-    ensures capacity { vec_capacity list.new ≡ vec_capacity list.old }
-{
-    list.copy_within(from..to, 0);
-}
-
-/// Appends items to a list that has room for them.
-#[inline(never)]
-pub(crate) fn append<T: Copy>(list: &mut Vec<T>, items: &[T])
-    requires { vec_len list.old + length items.now ≤ vec_capacity list.old }
-    ensures items { list.new.items ≡ list.old.items ++ items.now }
-    ensures capacity { vec_capacity list.new ≡ vec_capacity list.old }
-{
-    for item in items {
-        list.push_reserved(*item);
-    }
-}
-
 /// The checkpoints of one run. Contracts see them as a list, the newest first.
 ///
-/// Each has as many values of variables as the program has variables; the values of all stand in one list, and so do
-/// the pending entries. These two lists are filled up to their room, and counts say how much of them is in use.
+/// Each has as many values of variables as the program has variables, which a stack keeps. The pending entries of all
+/// stand in one list, which is filled up to its room, and a count says how much of it is in use.
 #[derive(Drop)]
 pub(crate) struct History {
-    width: usize,
     marks: Vec<Mark>,
-    values: Vec<i64>,
-    values_used: usize,
+    values: Stack,
     entries: Vec<Waiting>,
     entries_used: usize,
 }
@@ -180,33 +80,28 @@ impl Model for History {
     ghost use Rattle.std.specs.Vec.{vec_capacity};
 
     ghost view = { λ h. record {
-      width = h.width;
-      saves = saves_of h.width [] h.marks.items
-          (take h.values_used h.values.items) (take h.entries_used h.entries.items);
-      room = record {
-        marks = vec_capacity h.marks;
-        values = length h.values.items;
-        entries = length h.entries.items;
-      };
+      width = h.values.width;
+      saves = saves_of h.values.width [] h.marks.items h.values.values (take h.entries_used h.entries.items);
+      room = record { marks = vec_capacity h.marks; values = h.values.room; entries = length h.entries.items };
+      free = h.values.free;
     } };
 
-    ghost invariant = { λ h. (h.values_used ≤ length h.values.items) × (h.entries_used ≤ length h.entries.items) ×
-        AreKept h.width h.marks.items (take h.values_used h.values.items) (take h.entries_used h.entries.items) };
+    ghost invariant = { λ h. (h.entries_used ≤ length h.entries.items) ×
+        AreKept h.values.width h.marks.items h.values.values (take h.entries_used h.entries.items) };
 }
 
 impl History {
     /// No checkpoint of a program with so many variables.
-    pub fn new(alloc: Global, width: usize) -> History
-        ensures { result ≡ no_saves width }
+    pub fn new(alloc: Global, width: usize) -> Result<History, OutOfMemory>
+        ensures { IfOk result (λ h. h ≡ no_saves width) }
     {
-        History {
-            width,
+        let values = Stack::new(alloc, width)?;
+        Ok(History {
             marks: Vec::new(alloc),
-            values: Vec::new(alloc),
-            values_used: 0,
+            values,
             entries: Vec::new(alloc),
             entries_used: 0,
-        }
+        })
     }
 
     /// Makes a checkpoint of the state that is reached so far, if there is room for it, and answers whether there is.
@@ -215,7 +110,9 @@ impl History {
     pub fn save(&mut self, done: Done, state: &State) -> bool
         requires { length state.now.vars ≡ self.old.width }
         ensures saves { self.new ≡
-            (if result then record self.old { saves = saved_at done state.now ∷ self.old.saves } else self.old) }
+            (if result
+            then record self.old { saves = saved_at done state.now ∷ self.old.saves; free = self.new.free }
+            else self.old) }
         ensures room { IsTrue result ↔ HasRoomFor self.old state.now }
     {
         state.valid();
@@ -225,13 +122,12 @@ impl History {
 
     /// Makes room for one more checkpoint, of this state.
     pub fn reserve(&mut self, state: &State) -> Result<(), OutOfMemory>
-        ensures same { self.new ≡ record self.old { room = self.new.room } }
+        ensures same { self.new ≡ record self.old { room = self.new.room; free = self.new.free } }
         ensures room { OnOk result (HasRoomFor self.new state.now) }
     {
-        let values = self.values_used + state.vars().len();
         let entries = self.entries_used + state.pending().len();
         self.marks.try_reserve(1)?;
-        grow(&mut self.values, values, &[0; BLOCK])?;
+        self.values.reserve(state.vars())?;
         grow(&mut self.entries, entries, &[Waiting::default(); BLOCK])?;
         Ok(())
     }
@@ -251,19 +147,19 @@ impl History {
         let Some(mark) = self.marks.last() else {
             return false;
         };
-        let values = last_of(&self.values, self.values_used, self.width);
+        let values = self.values.last();
         let entries = last_of(&self.entries, self.entries_used, mark.pending);
         state.is_same_as(values, entries, mark.lost)
     }
 
     /// Makes room for as much as another history has room for.
     pub fn reserve_for(&mut self, other: &History) -> Result<(), OutOfMemory>
-        ensures same { self.new ≡ record self.old { room = self.new.room } }
+        ensures same { self.new ≡ record self.old { room = self.new.room; free = self.new.free } }
         ensures room { OnOk result (IsAtLeast other.now.room self.new.room) }
     {
         let marks = other.marks.capacity().saturating_sub(self.marks.len());
         self.marks.try_reserve(marks)?;
-        grow(&mut self.values, other.values.len(), &[0; BLOCK])?;
+        self.values.reserve_for(&other.values)?;
         grow(
             &mut self.entries,
             other.entries.len(),
@@ -274,10 +170,10 @@ impl History {
 
     /// Drops all checkpoints. The room stays as it is.
     pub fn clear(&mut self)
-        ensures { self.new ≡ record self.old { saves = [] } }
+        ensures { self.new ≡ record self.old { saves = []; free = self.new.free } }
     {
         self.marks.clear();
-        self.values_used = 0;
+        self.values.clear();
         self.entries_used = 0;
     }
 
@@ -285,9 +181,11 @@ impl History {
     /// those there, and answers whether it did: else that is left with none. The rooms of both stay as they are.
     pub fn set_aside(&mut self, tag: Tag, aside: &mut History) -> bool
         requires { aside.old.width ≡ self.old.width }
-        ensures left { self.new ≡ record self.old { saves = before tag self.old.saves } }
-        ensures aside { aside.new ≡
-            record aside.old { saves = if result then set_aside tag self.old.saves [] else [] } }
+        ensures left { self.new ≡ record self.old { saves = before tag self.old.saves; free = self.new.free } }
+        ensures aside { aside.new ≡ record aside.old {
+          saves = if result then set_aside tag self.old.saves [] else [];
+          free = aside.new.free;
+        } }
     {
         aside.clear();
         while let Some(newest) = self.newest()
@@ -307,14 +205,16 @@ impl History {
     fn move_newest(&mut self, other: &mut History) -> bool
         requires width { other.old.width ≡ self.old.width }
         requires some { 0 < length self.old.saves }
-        ensures left { self.new ≡ (if result then record self.old { saves = drop 1 self.old.saves } else self.old) }
-        ensures other { other.new ≡
-            (if result then record other.old { saves = take 1 self.old.saves ++ other.old.saves } else other.old) }
+        ensures left { self.new ≡ (if result
+            then record self.old { saves = drop 1 self.old.saves; free = self.new.free } else self.old) }
+        ensures other { other.new ≡ (if result
+            then record other.old { saves = take 1 self.old.saves ++ other.old.saves; free = other.new.free }
+            else other.old) }
     {
         let Some(mark) = self.marks.last() else {
             return false;
         };
-        let values = last_of(&self.values, self.values_used, self.width);
+        let values = self.values.last();
         let entries = last_of(&self.entries, self.entries_used, mark.pending);
         if !other.add(mark.done, values, entries, mark.lost) {
             return false;
@@ -332,6 +232,7 @@ impl History {
         ensures saves { self.new ≡ (if result
             then record self.old {
               saves = saved_at done (record { vars = values.now; pending = entries.now; lost = lost }) ∷ self.old.saves;
+              free = self.new.free;
             } else self.old) }
         ensures room { IsTrue result ↔
             HasRoomFor self.old (record { vars = values.now; pending = entries.now; lost = lost }) }
@@ -339,7 +240,7 @@ impl History {
         if self.marks.len() == self.marks.capacity() {
             return false;
         }
-        if values.len() > self.values.len() - self.values_used {
+        if values.len() > self.values.free() {
             return false;
         }
         if entries.len() > self.entries.len() - self.entries_used {
@@ -351,16 +252,15 @@ impl History {
             lost,
         };
         self.marks.push_reserved(mark);
-        write(&mut self.values, self.values_used, values);
+        self.values.push(values);
         write(&mut self.entries, self.entries_used, entries);
-        self.values_used += values.len();
         self.entries_used += entries.len();
         true
     }
 
     /// Drops the newest checkpoints up to one whose last row is not before the tag.
     pub fn drop_before(&mut self, tag: Tag)
-        ensures { self.new ≡ record self.old { saves = since tag self.old.saves } }
+        ensures { self.new ≡ record self.old { saves = since tag self.old.saves; free = self.new.free } }
     {
         while let Some(done) = self.newest()
             && done.is_before(tag)
@@ -373,7 +273,7 @@ impl History {
     /// none is before the tag, none is dropped. The room stays as it is. The checkpoints stand in order of their tags,
     /// so the newest one is found by halving, and where none is dropped none is touched.
     pub fn drop_older(&mut self, tag: Tag) -> Option<Done>
-        ensures others { self.new ≡ record self.old { saves = self.new.saves } }
+        ensures others { self.new ≡ record self.old { saves = self.new.saves; free = self.new.free } }
         ensures left { ArePartedBy tag self.old.saves → self.new.saves ≡ down_to tag self.old.saves }
         ensures newest { ArePartedBy tag self.old.saves → result ≡ newest (before tag self.old.saves) }
     {
@@ -404,18 +304,16 @@ impl History {
     /// Drops so many of the oldest checkpoints. The room stays as it is.
     fn drop_oldest(&mut self, count: usize)
         requires { count ≤ length self.old.saves }
-        ensures { self.new ≡ record self.old { saves = take (length self.old.saves - count) self.old.saves } }
+        ensures { self.new ≡
+            record self.old { saves = take (length self.old.saves - count) self.old.saves; free = self.new.free } }
     {
-        let mut values = 0;
         let mut entries = 0;
         let mut at = 0;
         while at < count {
-            values += self.width;
             entries += self.marks[at].pending;
             at += 1;
         }
-        move_front(&mut self.values, values, self.values_used);
-        self.values_used -= values;
+        self.values.drop_front(count);
         move_front(&mut self.entries, entries, self.entries_used);
         self.entries_used -= entries;
         let marks = self.marks.len();
@@ -425,7 +323,7 @@ impl History {
 
     /// Drops the checkpoints whose last row is not before the tag.
     pub fn drop_from(&mut self, tag: Tag)
-        ensures { self.new ≡ record self.old { saves = before tag self.old.saves } }
+        ensures { self.new ≡ record self.old { saves = before tag self.old.saves; free = self.new.free } }
     {
         while let Some(done) = self.newest()
             && !done.is_before(tag)
@@ -437,10 +335,10 @@ impl History {
     /// Drops the newest checkpoint.
     pub fn drop_newest(&mut self)
         requires { 0 < length self.old.saves }
-        ensures { self.new ≡ record self.old { saves = drop 1 self.old.saves } }
+        ensures { self.new ≡ record self.old { saves = drop 1 self.old.saves; free = self.new.free } }
     {
         if let Some(mark) = self.marks.pop() {
-            self.values_used -= self.width;
+            self.values.pop();
             self.entries_used -= mark.pending;
         }
     }
@@ -451,7 +349,7 @@ impl History {
         ensures { (newest : Saved) (others : List Saved) → self.now.saves ≡ newest ∷ others → state.new ≡ newest.state }
     {
         if let Some(mark) = self.marks.last() {
-            let values = last_of(&self.values, self.values_used, self.width);
+            let values = self.values.last();
             let entries = last_of(&self.entries, self.entries_used, mark.pending);
             state.restore(values, entries, mark.lost);
         }

@@ -11,8 +11,12 @@
 #![tactic(auto)]
 
 mod aside;
+mod changes;
+mod copies;
 mod history;
+mod lists;
 mod skips;
+mod stack;
 mod tip;
 mod walk;
 mod warp;

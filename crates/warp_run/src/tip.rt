@@ -91,8 +91,8 @@ impl Tip {
             due: 0,
             base: 0,
             floor: None,
-            history: History::new(alloc, program.variables().len()),
-            aside: Aside::new(alloc, program.variables().len()),
+            history: History::new(alloc, program.variables().len())?,
+            aside: Aside::new(alloc, program.variables().len())?,
             scratch: Scratch::new(alloc, program)?,
         })
     }

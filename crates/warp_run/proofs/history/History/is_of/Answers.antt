@@ -4,27 +4,27 @@ use Rattle.warp_run.specs.History.{IsOfState, Saved, Saves}
 use Rattle.warp_run.proofs.Marks.{has_last, in_use}
 use Rattle.warp_run.proofs.history.History.is_of.Goals as goal
 
-pub last_of-values-requires-clause-count : goal.last_of-values-requires-clause-count
-last_of-values-requires-clause-count c =
+pub last-values-requires : goal.last-values-requires
+last-values-requires c =
     let h = c.self.inside in
-    let has = has_last h.width _ h.marks.items c.in-Some.mark.now (take h.values_used h.values.items) (take h.entries_used h.entries.items)
-    c.deref.ensures.value c.in-Some.ensures.value c.self.invariant.2 in
-    omega (arith, has.vars, length-take-le h.values_used h.values.items c.self.invariant.0)
+    let has = has_last h.values.width _ h.marks.items c.in-Some.mark.now h.values.values (take h.entries_used h.entries.items)
+    c.deref.ensures.value c.in-Some.ensures.value c.self.invariant.1 in
+    has.vars
 
 pub last_of-entries-requires-clause-count : goal.last_of-entries-requires-clause-count
 last_of-entries-requires-clause-count c =
     let h = c.self.inside in
-    let has = has_last h.width _ h.marks.items c.in-Some.mark.now (take h.values_used h.values.items) (take h.entries_used h.entries.items)
-    c.deref.ensures.value c.in-Some.ensures.value c.self.invariant.2 in
-    omega (arith, has.pending, length-take-le h.entries_used h.entries.items c.self.invariant.1)
+    let has = has_last h.values.width _ h.marks.items c.in-Some.mark.now h.values.values (take h.entries_used h.entries.items)
+    c.deref.ensures.value c.in-Some.ensures.value c.self.invariant.1 in
+    omega (arith, has.pending, length-take-le h.entries_used h.entries.items c.self.invariant.0)
 
 pub returns : goal.returns
 returns c =
     let h = c.self.inside in
-    let has = has_last h.width _ h.marks.items c.in-Some.mark.now (take h.values_used h.values.items) (take h.entries_used h.entries.items)
-    c.deref.ensures.value c.in-Some.ensures.value c.self.invariant.2 in
-    let values = c.last_of-values.ensures ∙ in_use h.width h.values_used c.deref-2.ensures.value in
-    let entries = c.last_of-entries.ensures ∙ in_use c.in-Some.mark.now.pending h.entries_used c.deref-3.ensures.value in
+    let has = has_last h.values.width _ h.marks.items c.in-Some.mark.now h.values.values (take h.entries_used h.entries.items)
+    c.deref.ensures.value c.in-Some.ensures.value c.self.invariant.1 in
+    let values = c.last-values.ensures in
+    let entries = c.last_of-entries.ensures ∙ in_use c.in-Some.mark.now.pending h.entries_used c.deref-2.ensures.value in
     let state : _ ≡ _ = (λ i. record { vars = values i; pending = entries i; lost = c.in-Some.mark.now.lost }) in
     let saves = sym has.saves ∙ ap (λ (s : Saves). s.saves) c.self.view_is in
     subst (λ (all : List Saved). (IsTrue c.is_same_as.result → IsOfState all c.args.state.now) × (IsOfState all c.args.state.now → IsTrue c.is_same_as.result)) saves

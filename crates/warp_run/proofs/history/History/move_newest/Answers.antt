@@ -6,34 +6,34 @@ use Rattle.warp_run.specs.History.{Saved, Saves, saved_at}
 use Rattle.warp_run.proofs.Marks.{has_last, in_use}
 use Rattle.warp_run.proofs.history.History.move_newest.Goals as goal
 
-pub last_of-values-requires-clause-count : goal.last_of-values-requires-clause-count
-last_of-values-requires-clause-count c =
+pub last-values-requires : goal.last-values-requires
+last-values-requires c =
     let h = c.self.inside in
-    let has = has_last h.width _ h.marks.items c.in-Some.mark.now (take h.values_used h.values.items) (take h.entries_used h.entries.items)
-    c.deref.ensures.value c.in-Some.ensures.value c.self.invariant.2 in
-    omega (arith, has.vars, length-take-le h.values_used h.values.items c.self.invariant.0)
+    let has = has_last h.values.width _ h.marks.items c.in-Some.mark.now h.values.values (take h.entries_used h.entries.items)
+    c.deref.ensures.value c.in-Some.ensures.value c.self.invariant.1 in
+    has.vars
 
 pub last_of-entries-requires-clause-count : goal.last_of-entries-requires-clause-count
 last_of-entries-requires-clause-count c =
     let h = c.self.inside in
-    let has = has_last h.width _ h.marks.items c.in-Some.mark.now (take h.values_used h.values.items) (take h.entries_used h.entries.items)
-    c.deref.ensures.value c.in-Some.ensures.value c.self.invariant.2 in
-    omega (arith, has.pending, length-take-le h.entries_used h.entries.items c.self.invariant.1)
+    let has = has_last h.values.width _ h.marks.items c.in-Some.mark.now h.values.values (take h.entries_used h.entries.items)
+    c.deref.ensures.value c.in-Some.ensures.value c.self.invariant.1 in
+    omega (arith, has.pending, length-take-le h.entries_used h.entries.items c.self.invariant.0)
 
 pub add-requires-clause-values : goal.add-requires-clause-values
 add-requires-clause-values c =
     let h = c.self.inside in
-    let has = has_last h.width _ h.marks.items c.in-Some.mark.now (take h.values_used h.values.items) (take h.entries_used h.entries.items)
-    c.deref.ensures.value c.in-Some.ensures.value c.self.invariant.2 in
-    let values = c.last_of-values.ensures ∙ in_use h.width h.values_used c.deref-2.ensures.value in
+    let has = has_last h.values.width _ h.marks.items c.in-Some.mark.now h.values.values (take h.entries_used h.entries.items)
+    c.deref.ensures.value c.in-Some.ensures.value c.self.invariant.1 in
+    let values = c.last-values.ensures in
     ap (λ (v : List ℤ). length v) values ∙ has.last.vars ∙ ap (λ (s : Saves). s.width) c.self.view_is ∙ sym c.requires.width
 
 pub add-requires-clause-entries : goal.add-requires-clause-entries
 add-requires-clause-entries c =
     let h = c.self.inside in
-    let has = has_last h.width _ h.marks.items c.in-Some.mark.now (take h.values_used h.values.items) (take h.entries_used h.entries.items)
-    c.deref.ensures.value c.in-Some.ensures.value c.self.invariant.2 in
-    let entries = c.last_of-entries.ensures ∙ in_use c.in-Some.mark.now.pending h.entries_used c.deref-3.ensures.value in (
+    let has = has_last h.values.width _ h.marks.items c.in-Some.mark.now h.values.values (take h.entries_used h.entries.items)
+    c.deref.ensures.value c.in-Some.ensures.value c.self.invariant.1 in
+    let entries = c.last_of-entries.ensures ∙ in_use c.in-Some.mark.now.pending h.entries_used c.deref-2.ensures.value in (
       omega (arith, ap (λ (e : List Waiting). length e) entries, has.last.pending, has.last.few),
       subst AreInOrder (sym entries) has.last.order,
     )
@@ -41,10 +41,10 @@ add-requires-clause-entries c =
 pub returns-clause-other : goal.returns-clause-other
 returns-clause-other c =
     let h = c.self.inside in
-    let has = has_last h.width _ h.marks.items c.in-Some.mark.now (take h.values_used h.values.items) (take h.entries_used h.entries.items)
-    c.deref.ensures.value c.in-Some.ensures.value c.self.invariant.2 in
-    let values = c.last_of-values.ensures ∙ in_use h.width h.values_used c.deref-2.ensures.value in
-    let entries = c.last_of-entries.ensures ∙ in_use c.in-Some.mark.now.pending h.entries_used c.deref-3.ensures.value in
+    let has = has_last h.values.width _ h.marks.items c.in-Some.mark.now h.values.values (take h.entries_used h.entries.items)
+    c.deref.ensures.value c.in-Some.ensures.value c.self.invariant.1 in
+    let values = c.last-values.ensures in
+    let entries = c.last_of-entries.ensures ∙ in_use c.in-Some.mark.now.pending h.entries_used c.deref-2.ensures.value in
     let m = c.in-Some.mark.now in
     let saves = sym has.saves ∙ ap (λ (s : Saves). s.saves) c.self.view_is in
     let other = c.args.other.now in
@@ -52,4 +52,5 @@ returns-clause-other c =
       width = other.width;
       saves = saved_at m.done (record { vars = values i; pending = entries i; lost = m.lost }) ∷ other.saves;
       room = other.room;
-    }) ∙ ap (λ (all : List Saved). record { width = other.width; saves = take 1 all ++ other.saves; room = other.room }) saves
+      free = c.add.new.self.free;
+    }) ∙ ap (λ (all : List Saved). record { width = other.width; saves = take 1 all ++ other.saves; room = other.room; free = c.add.new.self.free }) saves

@@ -13,24 +13,24 @@ pub returns-then-count-eq0-clause-none : goal.returns-then-count-eq0-clause-none
 returns-then-count-eq0-clause-none c = λ none parted.
     let h = c.self.inside in
     let tag = c.args.tag in
-    let values = take h.values_used h.values.items in
+    let values = h.values.values in
     let entries = take h.entries_used h.entries.items in
     let count = c.partition_point-count in
     let same = ap (λ (s : Saves). s.saves) c.self.view_is in
-    let before = marks_parted tag h.width [] h.marks.items values entries (subst (ArePartedBy tag) (sym same) parted) in
+    let before = marks_parted tag h.values.width [] h.marks.items values entries (subst (ArePartedBy tag) (sym same) parted) in
     let marks = c.deref.ensures.value in
     let point = subst (λ (ms : List Mark). IsPartitionPoint (λ m. is_after m.done.last tag ≡ true) (λ m. is_after m.done.last tag ≡ false) ms count.result)
     marks
     (IsPartitionPoint-from_clause (λ (m : Mark). is_after m.done.last tag) _ _ count.ensures.partitioned
     (subst (IsPartitionedBy (λ (m : Mark). is_after m.done.last tag)) (sym marks) before) (λ a b f k. search rules)) in
-    none_there h.width h.marks.items values entries tag c.args.self.now.saves same count.result
+    none_there h.values.width h.marks.items values entries tag c.args.self.now.saves same count.result
     (subst (λ (ms : List Mark). count.result ≤ length ms) marks count.ensures.bound)
     (record { done = record { rows = 0; outputs = 0; last = None }; pending = 0; lost = 0 }) point (omega (arith, c.if-count-eq0.true))
 
 pub returns-clause-within : goal.returns-clause-within
 returns-clause-within c =
     let h = c.self.inside in
-    let lengths = length-saves_of h.width [] h.marks.items (take h.values_used h.values.items) (take h.entries_used h.entries.items) in
+    let lengths = length-saves_of h.values.width [] h.marks.items h.values.values (take h.entries_used h.entries.items) in
     let all = ap (λ (s : Saves). length s.saves) c.self.view_is in
     let few = subst (λ (ms : List Mark). c.partition_point-count.result ≤ length ms) c.deref.ensures.value c.partition_point-count.ensures.bound in
     omega arith
@@ -39,17 +39,17 @@ pub returns-clause-some : goal.returns-clause-some
 returns-clause-some c = λ parted.
     let h = c.self.inside in
     let tag = c.args.tag in
-    let values = take h.values_used h.values.items in
+    let values = h.values.values in
     let entries = take h.entries_used h.entries.items in
     let count = c.partition_point-count in
     let same = ap (λ (s : Saves). s.saves) c.self.view_is in
-    let before = marks_parted tag h.width [] h.marks.items values entries (subst (ArePartedBy tag) (sym same) parted) in
+    let before = marks_parted tag h.values.width [] h.marks.items values entries (subst (ArePartedBy tag) (sym same) parted) in
     let marks = c.deref.ensures.value in
     let point = subst (λ (ms : List Mark). IsPartitionPoint (λ m. is_after m.done.last tag ≡ true) (λ m. is_after m.done.last tag ≡ false) ms count.result)
     marks
     (IsPartitionPoint-from_clause (λ (m : Mark). is_after m.done.last tag) _ _ count.ensures.partitioned
     (subst (IsPartitionedBy (λ (m : Mark). is_after m.done.last tag)) (sym marks) before) (λ a b f k. search rules)) in
-    let found = newest_there h.width h.marks.items values entries tag c.args.self.now.saves same count.result
+    let found = newest_there h.values.width h.marks.items values entries tag c.args.self.now.saves same count.result
     (subst (λ (ms : List Mark). count.result ≤ length ms) marks count.ensures.bound) c.index.result.now point c.index.result.now
     (omega (arith, c.if-count-eq0.false)) c.index.ensures in
     (found.1, found.2)

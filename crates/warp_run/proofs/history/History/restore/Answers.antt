@@ -9,27 +9,27 @@ use Rattle.warp_run.proofs.history.History.restore.Goals as goal
 first_state : (a b : Saved) (x y : List Saved) → a ∷ x ≡ b ∷ y → a.state ≡ b.state
 first_state a b x y h = let same : a ≡ b = cc in ap (λ (s : Saved). s.state) same
 
-pub last_of-values-requires-clause-count : goal.last_of-values-requires-clause-count
-last_of-values-requires-clause-count c =
+pub last-values-requires : goal.last-values-requires
+last-values-requires c =
     let h = c.self.inside in
-    let has = has_last h.width _ h.marks.items c.in-Some.mark.now (take h.values_used h.values.items) (take h.entries_used h.entries.items)
-    c.deref.ensures.value c.in-Some.ensures.value c.self.invariant.2 in
-    omega (arith, has.vars, length-take-le h.values_used h.values.items c.self.invariant.0)
+    let has = has_last h.values.width _ h.marks.items c.in-Some.mark.now h.values.values (take h.entries_used h.entries.items)
+    c.deref.ensures.value c.in-Some.ensures.value c.self.invariant.1 in
+    has.vars
 
 pub last_of-entries-requires-clause-count : goal.last_of-entries-requires-clause-count
 last_of-entries-requires-clause-count c =
     let h = c.self.inside in
-    let has = has_last h.width _ h.marks.items c.in-Some.mark.now (take h.values_used h.values.items) (take h.entries_used h.entries.items)
-    c.deref.ensures.value c.in-Some.ensures.value c.self.invariant.2 in
-    omega (arith, has.pending, length-take-le h.entries_used h.entries.items c.self.invariant.1)
+    let has = has_last h.values.width _ h.marks.items c.in-Some.mark.now h.values.values (take h.entries_used h.entries.items)
+    c.deref.ensures.value c.in-Some.ensures.value c.self.invariant.1 in
+    omega (arith, has.pending, length-take-le h.entries_used h.entries.items c.self.invariant.0)
 
 pub restore-requires : goal.restore-requires
 restore-requires c =
     let h = c.self.inside in
-    let has = has_last h.width _ h.marks.items c.in-Some.mark.now (take h.values_used h.values.items) (take h.entries_used h.entries.items)
-    c.deref.ensures.value c.in-Some.ensures.value c.self.invariant.2 in
-    let values = c.last_of-values.ensures ∙ in_use h.width h.values_used c.deref-in-Some.ensures.value in
-    let entries = c.last_of-entries.ensures ∙ in_use c.in-Some.mark.now.pending h.entries_used c.deref-in-Some-2.ensures.value in
+    let has = has_last h.values.width _ h.marks.items c.in-Some.mark.now h.values.values (take h.entries_used h.entries.items)
+    c.deref.ensures.value c.in-Some.ensures.value c.self.invariant.1 in
+    let values = c.last-values.ensures in
+    let entries = c.last_of-entries.ensures ∙ in_use c.in-Some.mark.now.pending h.entries_used c.deref-in-Some.ensures.value in
     record {
       vars = ap (λ (v : List ℤ). length v) values ∙ has.last.vars ∙ ap (λ (s : Saves). s.width) c.self.view_is ∙ sym c.requires;
       few = omega (arith, ap (λ (e : List Waiting). length e) entries, has.last.pending, has.last.few);
@@ -39,10 +39,10 @@ restore-requires c =
 pub returns-in-Some : goal.returns-in-Some
 returns-in-Some c = λ newest others is.
     let h = c.self.inside in
-    let has = has_last h.width _ h.marks.items c.in-Some.mark.now (take h.values_used h.values.items) (take h.entries_used h.entries.items)
-    c.deref.ensures.value c.in-Some.ensures.value c.self.invariant.2 in
-    let values = c.last_of-values.ensures ∙ in_use h.width h.values_used c.deref-in-Some.ensures.value in
-    let entries = c.last_of-entries.ensures ∙ in_use c.in-Some.mark.now.pending h.entries_used c.deref-in-Some-2.ensures.value in
+    let has = has_last h.values.width _ h.marks.items c.in-Some.mark.now h.values.values (take h.entries_used h.entries.items)
+    c.deref.ensures.value c.in-Some.ensures.value c.self.invariant.1 in
+    let values = c.last-values.ensures in
+    let entries = c.last_of-entries.ensures ∙ in_use c.in-Some.mark.now.pending h.entries_used c.deref-in-Some.ensures.value in
     let saves = sym has.saves ∙ ap (λ (s : Saves). s.saves) c.self.view_is ∙ is in
     c.restore.ensures ∙ (λ i. record { vars = values i; pending = entries i; lost = c.in-Some.mark.now.lost })
     ∙ first_state _ newest _ others saves

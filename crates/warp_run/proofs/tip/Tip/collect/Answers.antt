@@ -22,7 +22,7 @@ returns-in-Some-clause-kept c = λ P E done at.
     let n = begins_with (before c.args.below x.history.saves) c.in-Some.done (c.in-Some.ensures.newest parted) in
     base_at P E x done at c.clear.new.self (ap (λ (a : SetAside). a.history.width) c.clear.ensures) (ap (λ (a : SetAside). a.history.saves) c.clear.ensures)
     c.args.below n.0 n.1 c.in-Some.done _ n.2 (sym n.3) refl
-    (c.drop_older.ensures.others ∙ ap (λ (cs : List Saved). record x.history { saves = cs }) (c.drop_older.ensures.left parted))
+    (c.drop_older.ensures.others ∙ ap (λ (cs : List Saved). record x.history { saves = cs; free = c.drop_older.new.self.free }) (c.drop_older.ensures.left parted))
 
 pub returns-in-Some-clause-floor : goal.returns-in-Some-clause-floor
 returns-in-Some-clause-floor c = λ P E done at.
@@ -45,7 +45,7 @@ returns-in_default-clause-kept c = λ P E done at.
     let parted = in_order x.base P E done c.args.below x.history.saves at.begin at.saved in
     base_stays P E x done at c.clear.new.self (ap (λ (a : SetAside). a.history.width) c.clear.ensures)
     (ap (λ (a : SetAside). a.history.saves) c.clear.ensures) c.args.below _ (sym (c.in_default.ensures.newest parted)) refl
-    (c.drop_older.ensures.others ∙ ap (λ (cs : List Saved). record x.history { saves = cs }) (c.drop_older.ensures.left parted))
+    (c.drop_older.ensures.others ∙ ap (λ (cs : List Saved). record x.history { saves = cs; free = c.drop_older.new.self.free }) (c.drop_older.ensures.left parted))
 
 pub returns-in_default-clause-behind : goal.returns-in_default-clause-behind
 returns-in_default-clause-behind c = λ P E done at run.

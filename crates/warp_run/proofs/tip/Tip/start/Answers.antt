@@ -25,5 +25,5 @@ returns c = λ E. record {
   due = search rules;
   aside_width = search rules;
   aside = search rules;
-  scratch = c.in_ok-new.ensures;
+  scratch = c.in_ok-new-3.ensures;
 }

@@ -1,6 +1,6 @@
 use Rattle.std.proofs.Common.{◌-◌, take, ap, ◌∙◌, arith}
-use Rattle.warp_run.proofs.MarksCut.{moved_front}
-use Rattle.warp_run.proofs.history.move_front.Goals as goal
+use Rattle.warp_run.proofs.ListsMoved.{moved_front}
+use Rattle.warp_run.proofs.lists.move_front.Goals as goal
 
 pub returns-clause-items : goal.returns-clause-items
 returns-clause-items g c =

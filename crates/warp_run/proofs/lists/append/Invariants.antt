@@ -1,5 +1,5 @@
 use Rattle.std.proofs.Common.{◌≡◌, ◌+◌, ◌++◌, drop, vec_len, vec_capacity}
-use Rattle.warp_run.proofs.history.append.Given as goal
+use Rattle.warp_run.proofs.lists.append.Given as goal
 
 -- what is there, and what is left, is all
 abbrev pub invariant-loop-item : goal.invariant-loop-item

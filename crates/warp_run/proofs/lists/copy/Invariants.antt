@@ -1,6 +1,6 @@
 -- the items so far are written
 use Rattle.std.proofs.Common.{◌≡◌, length, take}
-use Rattle.warp_run.proofs.history.copy.Given as goal
+use Rattle.warp_run.proofs.lists.copy.Given as goal
 
 abbrev pub invariant-loop-at : goal.invariant-loop-at
 invariant-loop-at g l = record {

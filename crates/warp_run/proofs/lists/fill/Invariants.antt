@@ -1,5 +1,5 @@
 use Rattle.std.proofs.Common.{◌≡◌, ◌-◌, ◌≤◌, take, vec_len}
-use Rattle.warp_run.proofs.history.fill.Given as goal
+use Rattle.warp_run.proofs.lists.fill.Given as goal
 
 -- what was there is in front
 abbrev pub invariant-loop-list : goal.invariant-loop-list

@@ -1,0 +1,7 @@
+-- `==` decides whether two are equal
+use Rattle.std.proofs.lemmas.Bool.Decides.{Decides-int_eq}
+use Rattle.std.proofs.lemmas.Slice.Eq.{slice_eq-Decides}
+use Rattle.warp_run.proofs.changes.are_equal.Goals as goal
+
+pub returns : goal.returns
+returns c = slice_eq-Decides Decides-int_eq _ _ _ c.eq.ensures
