@@ -154,10 +154,10 @@ impl<T: Timeline> Room<T> {
         if !self.replica.is_settled() {
             return Err(Untold::Unsettled);
         }
-        match self.shown.update(&self.replica) {
-            Ok(()) => Ok(()),
-            Err(_) => Err(Untold::NoMemory),
-        }
+        let Ok(()) = self.shown.update(&self.replica) else {
+            return Err(Untold::NoMemory);
+        };
+        Ok(())
     }
 
     /// A client has come. `Err` changes nothing.
