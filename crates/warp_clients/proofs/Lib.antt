@@ -4,3 +4,4 @@ mod One
 mod ToldTales
 mod Moving
 mod Stepping
+mod Cuts

@@ -200,9 +200,10 @@ impl Client {
         if self.gone {
             return;
         }
-        if self.wire.end().is_err() {
+        let Ok(()) = self.wire.end() else {
             self.lose();
-        }
+            return;
+        };
     }
 
     /// Asks what it says next; a line is read, and waits.
@@ -212,6 +213,14 @@ impl Client {
         if !self.may_listen() {
             return Listened::Nothing;
         }
+        self.ask_next(facts, is_failing)
+    }
+
+    /// Asks what it says next, where a line would be heard.
+    fn ask_next(&mut self, facts: &Facts, is_failing: bool) -> Listened
+        requires { (self.old.gone ≡ false) × (self.old.over ≡ false) × (self.old.slot ≡ None) }
+        ensures { Listens facts.now is_failing result self.old self.new }
+    {
         match self.wire.said() {
             Ok(Said::Line(fed)) => {
                 self.keep(facts, is_failing, &fed);
@@ -248,9 +257,10 @@ impl Client {
     pub(crate) fn answer<S: Answers>(&mut self, service: &mut S)
         ensures { Rests self.old self.new }
     {
-        if !self.gone {
-            self.wire.answer(service);
+        if self.gone {
+            return;
         }
+        self.wire.answer(service);
     }
 
     /// Speaks WebSocket from now on, with these rights. Where anything was said or told before it is lost.

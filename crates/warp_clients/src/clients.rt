@@ -176,13 +176,11 @@ impl<T: Timeline> Clients<T> {
             }
             Listened::More => true,
             Listened::Requests => {
-                self.answer(who, service);
-                self.note(who);
+                self.respond(who, service);
                 true
             }
             Listened::Upgrade => {
-                self.upgrade(who, service.rights());
-                self.note(who);
+                self.turn_to_web(who, service.rights());
                 true
             }
             Listened::Nothing => false,
@@ -205,6 +203,22 @@ impl<T: Timeline> Clients<T> {
         ensures { SomeRun (facts_of T.settled T.refused T.floor T.SLACK) self.old self.new }
     {
         self.crowd.answer(who, service);
+    }
+
+    /// Answers the requests that came of a client, and has them written.
+    fn respond<S: Visits>(&mut self, who: ClientId, service: &mut S)
+        ensures { SomeRun (facts_of T.settled T.refused T.floor T.SLACK) self.old self.new }
+    {
+        self.answer(who, service);
+        self.note(who);
+    }
+
+    /// A client speaks WebSocket from now on, and is named next.
+    fn turn_to_web(&mut self, who: ClientId, rights: Option<Rights>)
+        ensures { SomeRun (facts_of T.settled T.refused T.floor T.SLACK) self.old self.new }
+    {
+        self.upgrade(who, rights);
+        self.note(who);
     }
 
     /// A client speaks WebSocket from now on.

@@ -1,7 +1,7 @@
 //! All clients of a room, in their places, with what they have in common.
 ghost use Rattle.std.specs.Prelude.{◌≡◌, ◌⊎◌, ◌≤◌, [], ℕ, List, Some, None, false, true, IfErr, IfNone, IfOk, IfSome, OnErr, OnOk};
-ghost use Rattle.std.specs.Prelude.{IsTrue, length, slice_get, take};
-ghost use Rattle.warp_clients.specs.Client.{GoesIn, HasLine, Hears, IsNext, Loses, Misses, Replies};
+ghost use Rattle.std.specs.Prelude.{IsTrue, ◌<◌, length, slice_get, take};
+ghost use Rattle.warp_clients.specs.Client.{ClientState, GoesIn, HasLine, Hears, IsNext, Loses, Misses, Replies};
 ghost use Rattle.warp_clients.specs.declared.saying.Saying.TheVariants.{Token};
 ghost use Rattle.warp_clients.specs.Crowd.{Becomes, GetsPlace, Goes, IsAway, IsThere, MayDo, Moves};
 
@@ -117,10 +117,7 @@ impl Crowd {
         ensures none { result ≡ false → self.new ≡ self.old }
     {
         let at = who.key as usize;
-        if at > self.places.len() {
-            return false;
-        }
-        if at < self.places.len() && !self.places.is_free(at) {
+        if !self.may_place(at) {
             return false;
         }
         let client = Client::new(self.alloc, self.keys, who, &self.facts);
@@ -129,6 +126,18 @@ impl Crowd {
         }
         self.count = self.count.saturating_add(1);
         true
+    }
+
+    /// Whether this place is free, or the next.
+    fn may_place(&self, at: usize) -> bool
+        ensures most { IsTrue result → at ≤ length self.now.clients }
+        ensures free { IsTrue result → at < length self.now.clients →
+            (c : ClientState) × (slice_get self.now.clients at ≡ Some c) × (c.here ≡ false) }
+    {
+        if at >= self.places.len() {
+            return at == self.places.len();
+        }
+        self.places.is_free(at)
     }
 
     /// A client is gone; whether it was there.

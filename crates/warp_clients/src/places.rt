@@ -81,7 +81,10 @@ impl Places {
         if at >= self.clients.len() || !self.clients[at].is_me(who) {
             return Err(Gone);
         }
-        self.clients[at].hear(bytes)
+        match self.clients[at].hear(bytes) {
+            Ok(count) => Ok(count),
+            Err(gone) => Err(gone),
+        }
     }
 
     /// No more bytes come of the client.

@@ -107,7 +107,10 @@ impl Client {
     pub(crate) fn carry(&mut self)
         ensures { MayCarry self.old self.new }
     {
-        if self.gone || self.wire.is_behind() {
+        if self.gone {
+            return;
+        }
+        if self.wire.is_behind() {
             return;
         }
         let Some(end) = carried(self.out.as_slice()) else {
@@ -136,9 +139,10 @@ impl Client {
             return;
         }
         self.is_closed = true;
-        if self.wire.close(CloseCode::Away).is_err() {
+        let Ok(()) = self.wire.close(CloseCode::Away) else {
             self.lose();
-        }
+            return;
+        };
     }
 
     /// The next bytes to be written to it.
@@ -156,9 +160,10 @@ impl Client {
     pub(crate) fn written(&mut self, count: usize)
         ensures { MayWrite count self.old self.new }
     {
-        if !self.gone {
-            self.wire.written(count);
+        if self.gone {
+            return;
         }
+        self.wire.written(count);
     }
 
     /// Whether its connection is to be closed now: all is written of what it was told, and it is told nothing more; or it
