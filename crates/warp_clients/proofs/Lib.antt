@@ -5,3 +5,4 @@ mod ToldTales
 mod Moving
 mod Stepping
 mod Cuts
+mod At

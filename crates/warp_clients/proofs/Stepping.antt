@@ -71,9 +71,9 @@ module _ {T : Type 0} (facts : TimelineFacts T) where
       → (told : Bool) → (told ≡ true → Becomes one.who (Replies one) s.crowd.clients s'.crowd.clients)
       → (told ≡ false → Becomes one.who Misses s.crowd.clients s'.crowd.clients ⊎ (IsAway one.who s.crowd.clients × (s'.crowd.clients ≡ s.crowd.clients)))
       → s'.crowd.common ≡ s.crowd.common → SomeRun facts s s'
-  hand_run s s' one limit is h true yes no common =
-      run_one facts (step.Tells one) s s' ((subst (λ (n : ℕ). one.answer.len ≤ n) is h.limited, (limit, h)), (yes refl, common))
-  hand_run s s' one limit is h false yes no common = run_one facts (step.Drops one) s s' ((limit, h), (no refl, common))
+  hand_run s s' one limit is h true replied missed common =
+      run_one facts (step.Tells one) s s' ((subst (λ (n : ℕ). one.answer.len ≤ n) is h.limited, (limit, h)), (replied refl, common))
+  hand_run s s' one limit is h false replied missed common = run_one facts (step.Drops one) s s' ((limit, h), (missed refl, common))
 
   -- a client comes, has no place, and goes
   pub turned : (s s' : ClientsState T) (mid : RoomState T) (who : ClientId) (left : Bool) → Comes who s.room.queues mid.queues

@@ -221,22 +221,22 @@ impl Client {
         requires { (self.old.gone ≡ false) × (self.old.over ≡ false) × (self.old.slot ≡ None) }
         ensures { Listens facts.now is_failing result self.old self.new }
     {
-        match self.wire.said() {
-            Ok(Said::Line(fed)) => {
+        let Ok(said) = self.wire.said() else {
+            self.lose();
+            return Listened::Lost;
+        };
+        match said {
+            Said::Line(fed) => {
                 self.keep(facts, is_failing, &fed);
                 Listened::Kept
             }
-            Ok(Said::Requests) => Listened::Requests,
-            Ok(Said::Upgrade) => Listened::Upgrade,
-            Ok(Said::More) => Listened::More,
-            Ok(Said::Nothing) => Listened::Nothing,
-            Ok(Said::End) => {
+            Said::Requests => Listened::Requests,
+            Said::Upgrade => Listened::Upgrade,
+            Said::More => Listened::More,
+            Said::Nothing => Listened::Nothing,
+            Said::End => {
                 self.has_ended = true;
                 Listened::Ended
-            }
-            Err(_) => {
-                self.lose();
-                Listened::Lost
             }
         }
     }

@@ -77,14 +77,13 @@ impl Places {
         ensures ok { IfOk result (λ n. Becomes who (Hears (take n bytes.now)) self.old self.new) }
         ensures err { OnErr result (MayDo Loses who self.old self.new) }
     {
-        let at = who.key as usize;
-        if at >= self.clients.len() || !self.clients[at].is_me(who) {
+        let Some(at) = self.find(who) else {
             return Err(Gone);
-        }
-        match self.clients[at].hear(bytes) {
-            Ok(count) => Ok(count),
-            Err(gone) => Err(gone),
-        }
+        };
+        let Ok(count) = self.clients[at].hear(bytes) else {
+            return Err(Gone);
+        };
+        Ok(count)
     }
 
     /// No more bytes come of the client.
