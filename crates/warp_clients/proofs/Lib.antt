@@ -1,0 +1,8 @@
+mod InPlaces
+mod Entries
+mod One
+mod ToldTales
+mod Moving
+mod Stepping
+mod Cuts
+mod At
