@@ -38,7 +38,7 @@ pub loses_at : (who : ClientId) (items old : List ClientState) (at : ℕ) (v v' 
 loses_at who items old at v v' view there is (inl kept) =
     let same : v ≡ there.1.0 = got old at v there.1.0 there.1.1 (subst (λ (l : List ClientState). v ≡ slice_index_or l at v) view is) in
     inl (ap (λ (l : List ClientState). slice_set l at v') view ∙ ap (λ (x : ClientState). slice_set old at x) (kept ∙ same)
-        ∙ set_own old at there.1.0 there.1.1)
+    ∙ set_own old at there.1.0 there.1.1)
 loses_at who items old at v v' view there is (inr lost) = inr (becomes_at Loses who items old at v v' view there is lost)
 
 pub keeps_line : (f : Facts) (failing : Bool) (piece : Piece) (said : Saying) (c c' : ClientState) (w : Wire)
