@@ -6,7 +6,7 @@ ghost use Rattle.std.specs.Int.{w64, cast_unsigned};
 ghost use Rattle.warp_body.specs.Mixing.{mix_of, output_of, state_after};
 
 /// Output number `number`, 1 for the first, of the generator with this seed.
-#[inline(never)]
+#[inline(always)]
 pub(crate) fn mixed(seed: i64, number: i64) -> i64
     ensures { result ≡ mix_of seed number }
 {
@@ -14,6 +14,7 @@ pub(crate) fn mixed(seed: i64, number: i64) -> i64
 }
 
 /// The state after so many steps from a seed.
+#[inline(always)]
 fn state(seed: i64, steps: i64) -> u64
     ensures { result ≡ state_after (cast_unsigned w64 seed) (cast_unsigned w64 steps) }
 {
@@ -22,6 +23,7 @@ fn state(seed: i64, steps: i64) -> u64
 }
 
 /// The output that a state gives.
+#[inline(always)]
 fn output(state: u64) -> u64
     ensures { result ≡ output_of state }
 {
