@@ -124,62 +124,96 @@ fn same(holds: bool) -> Result<(), Fail> {
     }
 }
 
+/// The client that came in this place.
+fn who_at(outputs: &[(ClientId, Vec<u8>)], at: usize) -> Result<ClientId, Fail> {
+    match outputs.get(at) {
+        Some((who, _)) => Ok(*who),
+        None => Err("no such client".into()),
+    }
+}
+
+/// A client says these bytes, and what it said is done.
+fn says(clients: &mut Clients<Plain>, who: ClientId, bytes: &[u8]) -> Result<(), Fail> {
+    let heard = clients.hear(who, bytes);
+    same(heard == Ok(bytes.len()))?;
+    clients.say(who, &mut Door { answered: 0 });
+    Ok(())
+}
+
+/// The room works, of so long a log may be told, and what may be is handed on.
+fn works(
+    clients: &mut Clients<Plain>,
+    outputs: &mut Vec<(ClientId, Vec<u8>)>,
+    limit: u32,
+) -> Result<(), Fail> {
+    clients.told_up_to(limit);
+    for _ in 0..4 {
+        clients.work(64, 64);
+        clients.hand();
+        take(clients, outputs)?;
+    }
+    Ok(())
+}
+
+/// No more bytes come of a client.
+fn ends(clients: &mut Clients<Plain>, who: ClientId) {
+    clients.end(who);
+    clients.say(who, &mut Door { answered: 0 });
+}
+
+/// Whether this was written to this client, behind what was written before or, where only the last is asked for, last.
+fn wrote(
+    outputs: &mut Vec<(ClientId, Vec<u8>)>,
+    at: usize,
+    text: &[u8],
+    is_last: bool,
+) -> Result<(), Fail> {
+    let Some((_, output)) = outputs.get_mut(at) else {
+        return Err("no such client".into());
+    };
+    if is_last {
+        return same(output.ends_with(text));
+    }
+    same(output.as_slice() == text)?;
+    output.clear();
+    Ok(())
+}
+
 /// Does a step.
 fn do_act(
     clients: &mut Clients<Plain>,
     outputs: &mut Vec<(ClientId, Vec<u8>)>,
     act: Act,
 ) -> Result<(), Fail> {
-    let mut door = Door { answered: 0 };
     match act {
-        Act::Says(at, bytes) => {
-            let (who, _) = outputs[at];
-            let heard = clients.hear(who, bytes);
-            same(heard == Ok(bytes.len()))?;
-            clients.say(who, &mut door);
-        }
-        Act::Works(limit) => {
-            clients.told_up_to(limit);
-            for _ in 0..4 {
-                clients.work(64, 64);
-                clients.hand();
-                take(clients, outputs)?;
-            }
-        }
+        Act::Says(at, bytes) => says(clients, who_at(outputs, at)?, bytes),
+        Act::Works(limit) => works(clients, outputs, limit),
         Act::Ends(at) => {
-            let (who, _) = outputs[at];
-            clients.end(who);
-            clients.say(who, &mut door);
+            ends(clients, who_at(outputs, at)?);
+            Ok(())
         }
-        Act::Leaves(at) => {
-            let (who, _) = outputs[at];
-            let was = clients.leave(who);
-            same(was)?;
+        Act::Leaves(at) => same(clients.leave(who_at(outputs, at)?)),
+        Act::Fails(is_failing) => {
+            clients.refuse_records(is_failing);
+            Ok(())
         }
-        Act::Fails(is_failing) => clients.refuse_records(is_failing),
         Act::Pushes(at, len, wanted) => {
-            let (who, _) = outputs[at];
-            same(clients.push(who, len, b"* log 1 event 0 5 0 0 3\n") == wanted)?;
+            let who = who_at(outputs, at)?;
+            same(clients.push(who, len, b"* log 1 event 0 5 0 0 3\n") == wanted)
         }
         Act::Wrote(at, text) => {
             take(clients, outputs)?;
-            let (_, output) = &mut outputs[at];
-            same(output.as_slice() == text)?;
-            output.clear();
+            wrote(outputs, at, text, false)
         }
         Act::WroteLast(at, text) => {
             take(clients, outputs)?;
-            let (_, output) = &mut outputs[at];
-            same(output.ends_with(text))?;
+            wrote(outputs, at, text, true)
         }
         Act::Over(at) => {
             take(clients, outputs)?;
-            let (who, _) = outputs[at];
-            let is_over = clients.is_over(who);
-            same(is_over)?;
+            same(clients.is_over(who_at(outputs, at)?))
         }
     }
-    Ok(())
 }
 
 /// Does these steps, with so many clients.
