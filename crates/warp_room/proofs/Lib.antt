@@ -1,8 +1,8 @@
-mod Clients
+pub mod Clients
 mod ServedLines
-mod Runs
+pub mod Runs
 mod Parts
-mod OpenLines
+pub mod OpenLines
 mod Pieces
 mod ShownBefore
 mod Serving
@@ -10,4 +10,4 @@ mod Bounds
 mod Waiting
 mod CallSteps
 mod Hearing
-mod Older
+pub mod Older

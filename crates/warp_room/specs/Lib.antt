@@ -2,3 +2,4 @@ pub mod Queues
 pub mod Room
 pub mod Steps
 pub mod Codes
+pub mod Looks

@@ -1,6 +1,7 @@
 //! The room: its calls.
 ghost use Rattle.std.specs.Prelude.{◌≡◌, ◌⊎◌, ◌+◌, ◌<◌, ◌≤◌, ◌++◌, ◌∷◌, [], ℕ, Bool, false, true, Err, IfErr, IfNone, IfOk};
 ghost use Rattle.std.specs.Prelude.{IfSome, IsTrue, List, OnErr, OnOk, ◌||◌, drop, length, not, take};
+ghost use Rattle.warp_tag.specs.Limits.{most_rows};
 ghost use Rattle.warp_table.specs.Records.{set_of};
 ghost use Rattle.warp_record.specs.declared.line.Line.{Line};
 ghost use Rattle.warp_replica.specs.Answered.{Answered, AnswersLine, facts_of};
@@ -11,6 +12,7 @@ ghost use Rattle.warp_room.specs.declared.answers.AnsweredLine.{AnsweredLine};
 ghost use Rattle.warp_room.specs.declared.queues.Unheard.{Unheard};
 ghost use Rattle.warp_room.specs.declared.room.Untold.{Untold};
 ghost use Rattle.warp_room.specs.declared.room.Worked.{Worked};
+ghost use Rattle.warp_room.specs.Looks.{look_reply};
 ghost use Rattle.warp_room.specs.Queues.{Comes, Hears, IsSeat, SeatState, lines_of, may_answer};
 ghost use Rattle.warp_room.specs.Steps.{EndsTurn, EndsWork, Hands, HandsNone, Leaves, Serves, ServeEach, Works};
 
@@ -21,7 +23,7 @@ use std::alloc::Global;
 use std::collections::VecDeque;
 use std::marker::Model;
 use warp_line::{Progress, Timeline};
-use warp_record::{Line, Record, Refusal, Reply};
+use warp_record::{Line, Look, Record, Refusal, Reply};
 use warp_replica::{Answer, Replica};
 use warp_tag::OutOfMemory;
 use warp_watch::{ClientId, Question, Shown, Told, tell};
@@ -111,6 +113,51 @@ impl<T: Timeline> Room<T> {
         ensures { result.now ≡ self.now.replica }
     {
         &self.replica
+    }
+
+    /// How many records the log has.
+    pub fn len(&self) -> u32
+        ensures { result ≡ length self.now.replica.records }
+    {
+        self.replica.len()
+    }
+
+    /// Whether all is executed.
+    pub fn is_settled(&self) -> bool
+        ensures { result ≡ T.settled self.now.replica.timeline }
+    {
+        self.replica.is_settled()
+    }
+
+    /// What a look sees: how many released outputs are shown, at most as many as a board of the program has rows, and
+    /// whether they are frozen; or the one of this number among these.
+    pub fn look(&self, asked: Look) -> Reply
+        ensures { result ≡ look_reply (most_rows self.now.replica.program.form) self.now.shown asked }
+    {
+        look_at(
+            &self.shown,
+            self.replica.program().form().most_rows(),
+            asked,
+        )
+    }
+
+    /// Shows what is released, as far as it goes on from what was shown, where all is executed. `Err` changes nothing: not
+    /// all is executed, or no memory was to be had.
+    pub fn show(&mut self) -> Result<(), Untold>
+        ensures shows { OnOk result ((a : Answers) →
+            AreAnswers self.old.replica.program (set_of self.old.replica.records) a →
+            Shows a.released self.old.shown self.new.shown) }
+        ensures unsettled { result ≡ Err Untold.Unsettled → T.settled self.old.replica.timeline ≡ false }
+        ensures others { self.new ≡ record self.old { shown = self.new.shown } }
+        ensures err { OnErr result (self.new ≡ self.old) }
+    {
+        if !self.replica.is_settled() {
+            return Err(Untold::Unsettled);
+        }
+        match self.shown.update(&self.replica) {
+            Ok(()) => Ok(()),
+            Err(_) => Err(Untold::NoMemory),
+        }
     }
 
     /// A client has come. `Err` changes nothing.
@@ -279,6 +326,27 @@ impl<T: Timeline> Room<T> {
             answer,
         });
         None
+    }
+}
+
+/// What a look sees of what is shown, over a board of so many rows.
+fn look_at(shown: &Shown, rows: u32, asked: Look) -> Reply
+    ensures { result ≡ look_reply rows shown.now asked }
+{
+    match asked {
+        Look::Board => Reply::Board {
+            count: shown.len().min(rows),
+            frozen: shown.is_frozen(),
+        },
+        Look::Row(number) => {
+            if number >= rows {
+                return Reply::NoRow;
+            }
+            match shown.rows().get(number as usize) {
+                Some(row) => Reply::Row(*row),
+                None => Reply::NoRow,
+            }
+        }
     }
 }
 

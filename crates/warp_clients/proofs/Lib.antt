@@ -1,0 +1,5 @@
+mod InPlaces
+mod Entries
+mod One
+mod ToldTales
+mod Moving

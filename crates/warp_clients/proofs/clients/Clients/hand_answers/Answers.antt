@@ -1,0 +1,13 @@
+use Rattle.std.proofs.Common.{refl}
+use Rattle.warp_replica.specs.Answered.{facts_of}
+use Rattle.warp_clients.proofs.Moving.{run_none, run_noted, run_on}
+use Rattle.warp_clients.proofs.clients.Clients.hand_answers.Goals as goal
+
+pub loop-init : goal.loop-init
+loop-init g c = run_none (facts_of g.T.Timeline.settled g.T.Timeline.refused g.T.Timeline.floor g.T.Timeline.SLACK) c.args.self.now c.args.self.now refl
+
+pub loop-preserved : goal.loop-preserved
+loop-preserved g c = run_on (facts_of g.T.Timeline.settled g.T.Timeline.refused g.T.Timeline.floor g.T.Timeline.SLACK) c.args.self.now c.hand_one.new.self c.settle.new.self (run_on (facts_of g.T.Timeline.settled g.T.Timeline.refused g.T.Timeline.floor g.T.Timeline.SLACK) c.args.self.now c.loop.self c.hand_one.new.self c.loop.invariant c.hand_one.ensures) c.settle.ensures
+
+pub returns-in_default : goal.returns-in_default
+returns-in_default g c = run_on (facts_of g.T.Timeline.settled g.T.Timeline.refused g.T.Timeline.floor g.T.Timeline.SLACK) c.args.self.now c.loop.self c.hand_one.new.self c.loop.invariant c.hand_one.ensures

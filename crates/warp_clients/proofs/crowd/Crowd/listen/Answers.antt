@@ -1,0 +1,6 @@
+use Rattle.std.proofs.Common.{refl}
+use Rattle.warp_clients.proofs.Moving.{listens}
+use Rattle.warp_clients.proofs.crowd.Crowd.listen.Goals as goal
+
+pub returns : goal.returns
+returns c = rw (← c.self.view_is) (refl, listens (record { facts = c.self.inside.facts; failing = c.self.inside.is_failing; limit = c.self.inside.limit }) c.args.who c.listen.result c.self.inside.places c.listen.new.self c.listen.ensures)

@@ -1,0 +1,6 @@
+pub mod Sayings
+pub mod Client
+pub mod Crowd
+pub mod Steps
+pub mod Tale
+pub mod Codes

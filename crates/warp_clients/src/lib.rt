@@ -1,0 +1,26 @@
+//! All clients of one room, in one thread: their connections, what each may send, what it said, and what it is told. It
+//! has no socket, no thread and no clock.
+//!
+//! Bytes of a client are heard (`Clients::hear`), and it is asked what it says (`Clients::say`): a line for the room goes
+//! there with the client's rights, another is answered once all before it are. The room works (`Clients::work`), and its
+//! answers go to who asked once they may be told (`Clients::hand`).
+#![tactic(auto)]
+
+mod asking;
+mod client;
+mod clients;
+mod crowd;
+mod law;
+mod places;
+mod saying;
+mod telling;
+#[cfg(test)]
+mod tests;
+mod texts;
+mod writing;
+
+pub use clients::{Clients, Refused, Visits};
+pub use law::what_is_told;
+pub use warp_room::Worked;
+pub use warp_watch::ClientId;
+pub use warp_web::{Answers, Gone};

@@ -1,0 +1,270 @@
+//! What no clause says of clients: what is written to them on worked rows of the program `twice`.
+
+use crate::{Answers, ClientId, Clients, Visits};
+use bytes::Bytes;
+use http::{HeaderName, HeaderValue, Request, StatusCode};
+use http_server::{Response, Service};
+use std::alloc::{AllocError, Global};
+use std::hash::RandomState;
+use std::test::Fail;
+use warp_hub::{Facts, Rights, Tokens};
+use warp_line::Plain;
+use warp_replica::Replica;
+use warp_room::Room;
+use warp_step::Program;
+use warp_tag::Form;
+
+/// Upgrades each request.
+#[derive(Drop)]
+struct Door {
+    answered: u64,
+}
+
+impl Service for Door {
+    ghost answers = { λ _ _ _ _. Unit {0} };
+
+    fn call(
+        &mut self,
+        _request: &Request<Bytes>,
+        response: &mut Response,
+    ) -> Result<(), AllocError> {
+        response.status = StatusCode::SWITCHING_PROTOCOLS;
+        response.add_header(
+            HeaderName::from_static("connection"),
+            HeaderValue::from_static("upgrade"),
+        )?;
+        response.add_header(
+            HeaderName::from_static("upgrade"),
+            HeaderValue::from_static("websocket"),
+        )?;
+        self.answered = self.answered.wrapping_add(1);
+        Ok(())
+    }
+}
+
+impl Answers for Door {
+    fn answered(&self) -> u64 {
+        self.answered
+    }
+}
+
+impl Visits for Door {
+    fn rights(&self) -> Option<Rights> {
+        Some(Rights::Read)
+    }
+}
+
+/// What a step of a row does.
+#[derive(Clone, Copy)]
+enum Act {
+    /// This client says these bytes, and what it said is done.
+    Says(usize, &'static [u8]),
+    /// The room works, of so long a log may be told, and what may be is handed on.
+    Works(u32),
+    /// No more bytes come of this client.
+    Ends(usize),
+    /// This client is gone.
+    Leaves(usize),
+    /// Records are refused from now on, or not.
+    Fails(bool),
+    /// Whole lines that tell of so long a log are pushed to this client, or not.
+    Pushes(usize, u32, bool),
+    /// This was written to this client behind what was written before.
+    Wrote(usize, &'static [u8]),
+    /// This was written to this client last.
+    WroteLast(usize, &'static [u8]),
+    /// This client is to be closed.
+    Over(usize),
+}
+
+/// Clients of the program `twice`, with a token that may send for origin 0, if any.
+fn clients(rt: &HostRuntime, tokens: Option<&[u8]>) -> Result<Clients<Plain>, Fail> {
+    let alloc = rt.alloc();
+    let program = Program::twice(alloc).map_err(|_| "memory")?;
+    let replica = Replica::<Plain>::new(alloc, program).map_err(|_| "memory")?;
+    let tokens = match tokens {
+        Some(text) => Some(Tokens::read(alloc, Form::One, text).map_err(|_| "tokens")?),
+        None => None,
+    };
+    let facts = Facts {
+        form: Form::One,
+        program: Vec::from_slice(alloc, b"program 1 x")?,
+        names: Vec::from_slice(alloc, b"names {}")?,
+        most_clients: 8,
+        tokens,
+    };
+    let room = Room::new(alloc, replica, 256, 1_024);
+    Ok(Clients::new(alloc, RandomState::new(rt)?, room, facts))
+}
+
+/// Takes what is written to all clients.
+fn take(clients: &mut Clients<Plain>, outputs: &mut Vec<(ClientId, Vec<u8>)>) -> Result<(), Fail> {
+    for _ in 0..64 {
+        let Some(who) = clients.changed() else {
+            return Ok(());
+        };
+        clients.say(who, &mut Door { answered: 0 });
+        let count = clients.output(who).len();
+        for (other, output) in outputs.iter_mut() {
+            if *other == who {
+                output.extend_from_slice(clients.output(who))?;
+            }
+        }
+        clients.written(who, count);
+    }
+    Ok(())
+}
+
+/// That is so.
+fn same(holds: bool) -> Result<(), Fail> {
+    if holds {
+        Ok(())
+    } else {
+        Err("it is not so".into())
+    }
+}
+
+/// Does a step.
+fn do_act(
+    clients: &mut Clients<Plain>,
+    outputs: &mut Vec<(ClientId, Vec<u8>)>,
+    act: Act,
+) -> Result<(), Fail> {
+    let mut door = Door { answered: 0 };
+    match act {
+        Act::Says(at, bytes) => {
+            let (who, _) = outputs[at];
+            let heard = clients.hear(who, bytes);
+            same(heard == Ok(bytes.len()))?;
+            clients.say(who, &mut door);
+        }
+        Act::Works(limit) => {
+            clients.told_up_to(limit);
+            for _ in 0..4 {
+                clients.work(64, 64);
+                clients.hand();
+                take(clients, outputs)?;
+            }
+        }
+        Act::Ends(at) => {
+            let (who, _) = outputs[at];
+            clients.end(who);
+            clients.say(who, &mut door);
+        }
+        Act::Leaves(at) => {
+            let (who, _) = outputs[at];
+            let was = clients.leave(who);
+            same(was)?;
+        }
+        Act::Fails(is_failing) => clients.refuse_records(is_failing),
+        Act::Pushes(at, len, wanted) => {
+            let (who, _) = outputs[at];
+            same(clients.push(who, len, b"* log 1 event 0 5 0 0 3\n") == wanted)?;
+        }
+        Act::Wrote(at, text) => {
+            take(clients, outputs)?;
+            let (_, output) = &mut outputs[at];
+            same(output.as_slice() == text)?;
+            output.clear();
+        }
+        Act::WroteLast(at, text) => {
+            take(clients, outputs)?;
+            let (_, output) = &mut outputs[at];
+            same(output.ends_with(text))?;
+        }
+        Act::Over(at) => {
+            take(clients, outputs)?;
+            let (who, _) = outputs[at];
+            let is_over = clients.is_over(who);
+            same(is_over)?;
+        }
+    }
+    Ok(())
+}
+
+/// Does these steps, with so many clients.
+fn play(rt: &HostRuntime, tokens: Option<&[u8]>, count: usize, acts: &[Act]) -> Result<(), Fail> {
+    let mut clients = clients(rt, tokens)?;
+    let mut outputs = Vec::new(rt.alloc());
+    for _ in 0..count {
+        let who = clients.come().map_err(|_| "no place")?;
+        outputs.push((who, Vec::new(rt.alloc())))?;
+    }
+    for one in acts {
+        do_act(&mut clients, &mut outputs, *one)?;
+    }
+    Ok(())
+}
+
+/// Two clients: answers wait until they may be told, a word and a line that is none wait for the lines before them, a late
+/// record is executed again, and what a client that left had asked goes to nobody.
+const LINES: &[Act] = &[
+    Act::Says(0, b"event 0 5 0 0 3\nprogram\nwhat\nvar 0\nvars\n"),
+    Act::Says(1, b"event 1 6 0 1 4\nboard\n"),
+    Act::Wrote(0, b""),
+    Act::Works(0),
+    Act::Wrote(0, b""),
+    Act::Works(1),
+    Act::Wrote(0, b"taken 1\nprogram 1 x\nrefused 1\n"),
+    Act::Wrote(1, b""),
+    Act::Works(2),
+    Act::Wrote(1, b"taken 2\nboard 0 0\n"),
+    Act::Works(2),
+    Act::Wrote(0, b"var 2 -1\nvars 2 -1\n"),
+    Act::Pushes(1, 3, false),
+    Act::Pushes(1, 2, true),
+    Act::Wrote(1, b"* log 1 event 0 5 0 0 3\n"),
+    Act::Says(1, b"event 0 4 0 0 1\nvar 0\nvar 0"),
+    Act::Says(0, b"var 0\n"),
+    Act::Leaves(0),
+    Act::Ends(1),
+    Act::Works(9),
+    Act::Works(9),
+    Act::Wrote(1, b"taken 3\nvar 3 1\nrefused 1\n"),
+    Act::Over(1),
+];
+
+#[test]
+fn answers_in_their_order(rt: HostRuntime) -> Result<(), Fail> {
+    play(&rt, None, 2, LINES)
+}
+
+/// A client with a token: what comes before it is refused, but for `program`; its rights hold for what comes behind it; a
+/// third wrong token ends a client; and records are refused while the journal can't be written.
+const TOKENS: &[Act] = &[
+    Act::Says(
+        0,
+        b"var 0\nprogram\ntoken a\nevent 1 5 0 1 3\nevent 0 5 0 0 3\n",
+    ),
+    Act::Works(9),
+    Act::Wrote(0, b"refused 13\nprogram 1 x\nmay 0\nrefused 13\ntaken 1\n"),
+    Act::Says(1, b"token b\ntoken c\ntoken d\ntoken a\n"),
+    Act::Works(9),
+    Act::Wrote(1, b"refused 13\nrefused 13\nrefused 13\n"),
+    Act::Over(1),
+    Act::Fails(true),
+    Act::Says(0, b"event 0 6 0 0 3\n"),
+    Act::Works(9),
+    Act::Wrote(0, b"refused 14\n"),
+];
+
+#[test]
+fn rights_of_tokens(rt: HostRuntime) -> Result<(), Fail> {
+    play(&rt, Some(b"a 0\n"), 2, TOKENS)
+}
+
+/// Over HTTP a request is answered, an upgrade gives the rights that the service found, and lines come in frames.
+const WEB: &[Act] = &[
+    Act::Says(
+        0,
+        b"GET /ws HTTP/1.1\r\nHost: x\r\nConnection: upgrade\r\nUpgrade: websocket\r\n\r\n\
+\x81\x85\0\0\0\0var 0\x81\x87\0\0\0\0collect",
+    ),
+    Act::Works(9),
+    Act::WroteLast(0, b"\r\n\r\n\x81\x12var 0 0\nrefused 13"),
+];
+
+#[test]
+fn lines_over_websocket(rt: HostRuntime) -> Result<(), Fail> {
+    play(&rt, None, 1, WEB)
+}
