@@ -1,0 +1,16 @@
+//! A host as one machine of events: its clients with their room, what they watch, its peers, what is measured, and what
+//! its operator is told. It has no socket, no file, no thread and no clock: what comes is told by calls with the time in
+//! microseconds, and what is to be done is asked for (`Machine::next`).
+#![tactic(auto)]
+
+mod action;
+mod machine;
+mod start;
+#[cfg(test)]
+mod tests;
+
+pub use action::{Action, Ending};
+pub use machine::Machine;
+pub use start::{JournalSeen, LastDone, Options, PeerAt, Start};
+pub use warp_clients::ClientId;
+pub use warp_service::{Named, Note, NoteText, PeerAction};
