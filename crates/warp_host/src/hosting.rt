@@ -29,7 +29,7 @@ use warp_line::Timeline;
 use warp_machine::{LastDone, Machine, Start};
 use warp_pages::{Names, Pages, Seen, Texts};
 use warp_replica::Replica;
-use warp_tag::{Form, OutOfMemory};
+use warp_tag::Form;
 use warp_trace::Labels;
 
 /// So many events are taken at once.
@@ -54,12 +54,6 @@ pub enum HostFault {
 
 impl From<AllocError> for HostFault {
     fn from(_refused: AllocError) -> HostFault {
-        HostFault::NoMemory
-    }
-}
-
-impl From<OutOfMemory> for HostFault {
-    fn from(_refused: OutOfMemory) -> HostFault {
         HostFault::NoMemory
     }
 }
