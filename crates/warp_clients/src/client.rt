@@ -7,6 +7,7 @@ ghost use Rattle.warp_clients.specs.declared.saying.Saying.{Saying};
 ghost use Rattle.warp_record.specs.Lines.{piece_of};
 
 use crate::saying::{Saying, first_rights, is_strange, read_saying};
+use crate::watching::{NO_SUBJECTS, Subjects};
 use bytes::BytesMut;
 use std::alloc::Global;
 use std::hash::RandomState;
@@ -71,6 +72,8 @@ pub(crate) struct Client {
     pub(crate) is_closed: bool,
     /// It stands among those for which there is something to do.
     pub(crate) is_listed: bool,
+    /// What it watches.
+    pub(crate) watches: Subjects,
 }
 
 impl Model for Client {
@@ -115,6 +118,7 @@ impl Client {
             is_web: false,
             is_closed: false,
             is_listed: false,
+            watches: NO_SUBJECTS,
         }
     }
 

@@ -53,12 +53,14 @@ pub enum Untold {
 /// A replica with what waits of its clients.
 #[derive(Drop)]
 pub struct Room<T: Timeline> {
-    replica: Replica<T>,
-    queues: Queues,
+    pub(crate) replica: Replica<T>,
+    pub(crate) queues: Queues,
     made: VecDeque<AnsweredLine>,
-    shown: Shown,
+    pub(crate) shown: Shown,
     most_lines: u32,
     most_answers: u32,
+    /// How many records the log had when what is released was shown last.
+    shown_len: u32,
 }
 
 impl<T: Timeline> Model for Room<T> {
@@ -105,6 +107,7 @@ impl<T: Timeline> Room<T> {
             shown: Shown::new(alloc),
             most_lines,
             most_answers,
+            shown_len: 0,
         }
     }
 
@@ -155,9 +158,17 @@ impl<T: Timeline> Room<T> {
             return Err(Untold::Unsettled);
         }
         match self.shown.update(&self.replica) {
-            Ok(()) => Ok(()),
+            Ok(()) => {
+                self.shown_len = self.replica.len();
+                Ok(())
+            }
             Err(_) => Err(Untold::NoMemory),
         }
+    }
+
+    /// Whether all that is released is known to be shown, or what is shown is frozen.
+    pub(crate) fn is_all_shown(&self) -> bool {
+        self.shown.is_frozen() || self.shown_len == self.replica.len()
     }
 
     /// A client has come. `Err` changes nothing.
@@ -247,6 +258,7 @@ impl<T: Timeline> Room<T> {
         let Ok(()) = self.shown.update(&self.replica) else {
             return Err(Untold::NoMemory);
         };
+        self.shown_len = self.replica.len();
         match tell(alloc, &self.replica, &self.shown, question) {
             Ok(told) => Ok(told),
             Err(_) => Err(Untold::NoMemory),
@@ -300,7 +312,7 @@ impl<T: Timeline> Room<T> {
 
     /// Answers the oldest line of the client whose turn it is; or says why not, and changes nothing. `lacking` says that
     /// executing lacked memory: then a line that needs it is refused.
-    fn serve(&mut self, alloc: Global, lacking: bool) -> Option<Worked>
+    pub(crate) fn serve(&mut self, alloc: Global, lacking: bool) -> Option<Worked>
         requires { IsTrue lacking → (T.settled self.old.replica.timeline ≡ false)
             × T.refused self.old.replica.timeline }
         ensures served { IfNone result ((one : AnsweredLine) ×

@@ -1,0 +1,75 @@
+//! Work in parts: answering lines and executing what they brought, so that what is released is shown between them.
+ghost use Rattle.std.specs.Prelude.{◌≡◌, ◌≤◌, List, length};
+ghost use Rattle.warp_replica.specs.Answered.{facts_of};
+ghost use Rattle.warp_room.specs.declared.answers.AnsweredLine.{AnsweredLine};
+ghost use Rattle.warp_room.specs.Steps.{RoomDoes, ServeEach};
+ghost use Rattle.warp_room.specs.Steps as steps;
+
+use crate::room::{Room, Worked};
+use std::alloc::Global;
+use warp_line::{Progress, Timeline};
+use warp_record::{Line, Record};
+use warp_step::Meter;
+use warp_tag::{OutOfMemory, Tag};
+
+impl<T: Timeline> Room<T> {
+    /// Answers at most so many lines that need no execution, as `work` does, and executes nothing. It ends with `More` in
+    /// front of a record behind the horizon, where not all is shown that is released: the record may take some of that
+    /// back.
+    pub fn answer_some(&mut self, alloc: Global, most_lines: u32) -> Worked
+        ensures { (served : List AnsweredLine) × (length served ≤ most_lines)
+            × ServeEach (facts_of T.settled T.refused T.floor T.SLACK) served self.old self.new }
+    {
+        for _ in 0..most_lines {
+            if self.is_to_show() {
+                return Worked::More;
+            }
+            if let Some(worked) = self.serve(alloc, false) {
+                return worked;
+            }
+        }
+        Worked::More
+    }
+
+    /// Executes what is not done, by at most so many steps, which this meter counts.
+    pub fn execute<M: Meter>(
+        &mut self,
+        alloc: Global,
+        most_steps: u64,
+        meter: &mut M,
+    ) -> Result<Progress, OutOfMemory>
+        ensures { RoomDoes (facts_of T.settled T.refused T.floor T.SLACK) steps.Executed self.old self.new }
+    {
+        self.replica.settle_some(alloc, most_steps, meter)
+    }
+
+    /// Whether the next line is a record behind the horizon, and not all is shown that is released.
+    fn is_to_show(&self) -> bool {
+        if self.is_all_shown() {
+            return false;
+        }
+        match self.queues.first(self.is_settled()) {
+            Some(turn) => self.comes_behind(&turn.line),
+            None => false,
+        }
+    }
+
+    /// Whether the line has a record with a tag before the horizon.
+    fn comes_behind(&self, line: &Line) -> bool {
+        match line {
+            Line::Put(record) => self
+                .replica
+                .is_before_horizon(record.origin(), tag_of(record)),
+            _ => false,
+        }
+    }
+}
+
+/// The tag of a record.
+fn tag_of(record: &Record) -> Tag {
+    match *record {
+        Record::Event { tag, .. } => tag,
+        Record::Withdraw { tag, .. } => tag,
+        Record::Announce { tag, .. } => tag,
+    }
+}
