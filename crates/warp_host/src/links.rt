@@ -48,6 +48,11 @@ impl Links {
         Ok(Links { places })
     }
 
+    /// There are no peers any more.
+    pub(crate) fn clear(&mut self) {
+        self.places.clear();
+    }
+
     /// How many peers there are.
     pub(crate) fn len(&self) -> u16 {
         u16::try_from(self.places.len()).unwrap_or(u16::MAX)

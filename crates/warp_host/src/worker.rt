@@ -447,7 +447,10 @@ impl<T: Timeline> Worker<T> {
             Action::Close(who) => self.seats.close(who),
             Action::Peer(peer, wanted) => self.act_for_peer(rt, peer, wanted),
             Action::Listen(true) => {}
-            Action::Listen(false) => self.entrance = None,
+            Action::Listen(false) => {
+                self.entrance = None;
+                self.links.clear();
+            }
             Action::Tell(note) => self.tell(rt, note),
             Action::Over(_) => self.is_over = true,
         }
