@@ -1,16 +1,20 @@
-//! The machine: its calls.
+//! The machine: what it holds, and how it begins.
 
-use crate::action::{Action, Ending};
-use crate::start::{JournalSeen, LastDone, Options, PeerAt, Start};
+use crate::action::Ending;
+use crate::conns::Conns;
+use crate::peering::Followed;
+use crate::start::{JournalSeen, Options, PeerAt, Start};
+use crate::stepping::Steps;
+use crate::watchers::Watchers;
 use std::alloc::Global;
 use std::collections::VecDeque;
-use warp_clients::{ClientId, Clients};
+use warp_clients::Clients;
+use warp_hub::Rights;
 use warp_line::Timeline;
-use warp_pages::Pages;
-use warp_record::Record;
+use warp_pages::{Pages, Stopwatch};
 use warp_room::Room;
-use warp_service::{Named, Note};
-use warp_tag::OutOfMemory;
+use warp_service::{Named, Note, Peer, Timers};
+use warp_tag::{Form, OutOfMemory};
 
 /// So many lines of a client may wait in the room.
 const MOST_LINES: u32 = 256;
@@ -18,16 +22,88 @@ const MOST_LINES: u32 = 256;
 /// So many answers wait at most to be handed on.
 const MOST_ANSWERS: u32 = 16_384;
 
+/// So many notes wait at most: a second brings no more.
+const MOST_NOTES: usize = 16;
+
+/// What was told to an operator.
+#[derive(Clone, Copy)]
+pub(crate) struct Counted {
+    /// How many connections were turned away since there were as many clients as there may be: in all, and as was told.
+    pub(crate) turned_away: u64,
+    pub(crate) turned_away_told: u64,
+    /// How many were refused for want of a descriptor, as was told.
+    pub(crate) undescribed_told: u64,
+    /// How many clients were too slow: in all, and as was told.
+    pub(crate) slow: u64,
+    pub(crate) slow_told: u64,
+    /// How many requests were refused, as was told.
+    pub(crate) forbidden_told: u64,
+    /// That the log is full was told.
+    pub(crate) is_full_told: bool,
+    /// The greatest length of the log that watchers were told of.
+    pub(crate) newest: u32,
+    /// The horizon, as it was seen last: its time and its microstep.
+    pub(crate) horizon: (u64, u64),
+}
+
+/// Nothing was counted.
+const NOTHING_COUNTED: Counted = Counted {
+    turned_away: 0,
+    turned_away_told: 0,
+    undescribed_told: 0,
+    slow: 0,
+    slow_told: 0,
+    forbidden_told: 0,
+    is_full_told: false,
+    newest: 0,
+    horizon: (0, 0),
+};
+
+/// Nothing is known of a journal: there is none.
+const NO_JOURNAL: JournalSeen = JournalSeen {
+    records: 0,
+    unsynced: 0,
+    waits: 0,
+    undescribed: 0,
+};
+
 /// A host.
 #[derive(Drop)]
 pub struct Machine<T: Timeline> {
-    alloc: Global,
-    clients: Clients<T>,
-    pages: Pages,
-    peers: Vec<PeerAt>,
-    options: Options,
+    pub(crate) alloc: Global,
+    pub(crate) clients: Clients<T>,
+    pub(crate) conns: Conns,
+    pub(crate) watchers: Watchers,
+    pub(crate) steps: Steps,
+    pub(crate) pages: Pages,
+    pub(crate) peers: Vec<Followed>,
+    /// Some peer may want something.
+    pub(crate) are_peers_due: bool,
+    pub(crate) notes: VecDeque<Note>,
+    pub(crate) stopwatch: Stopwatch,
+    pub(crate) timers: Timers,
+    pub(crate) counted: Counted,
+    pub(crate) journal: JournalSeen,
+    pub(crate) options: Options,
+    pub(crate) most_records: u32,
+    /// The answer to `program`.
     program: Vec<u8>,
-    acts: VecDeque<Action>,
+    /// The time of the last call.
+    pub(crate) now: u64,
+    /// Of so long a log may be told.
+    pub(crate) limit: u32,
+    /// The journal can't be written.
+    pub(crate) is_failing: bool,
+    /// There is more to do at once.
+    pub(crate) has_more: bool,
+    /// That nobody is let in any more is to be said.
+    pub(crate) shuts: bool,
+    /// Since when it ends.
+    pub(crate) ending: Option<u64>,
+    /// Why it has ended, until that is said.
+    pub(crate) over: Option<Ending>,
+    /// It has ended.
+    pub(crate) is_over: bool,
 }
 
 impl<T: Timeline> Machine<T> {
@@ -36,163 +112,81 @@ impl<T: Timeline> Machine<T> {
         let Start {
             keys,
             replica,
-            facts,
-            labels: _,
+            mut facts,
+            labels,
             pages,
             peers,
             options,
         } = start;
-        let _ = now;
+        // Whatever the facts say, lines are read in the form of the program that runs.
+        facts.form = replica.program().form();
+        facts.most_clients = most_of(options.most_clients, peers.len());
+        let form = facts.form;
         let program = Vec::from_slice(alloc, &facts.program)?;
+        let most_records = form.most_records();
+        let has_tokens = pages.has_tokens();
         let room = Room::new(alloc, replica, MOST_LINES, MOST_ANSWERS);
-        Ok(Machine {
+        let mut machine = Machine {
             alloc,
             clients: Clients::new(alloc, keys, room, facts),
+            conns: Conns::new(alloc),
+            watchers: Watchers::new(alloc),
+            steps: Steps::new(alloc, labels),
             pages,
-            peers,
+            peers: Vec::new(alloc),
+            are_peers_due: true,
+            notes: VecDeque::with_capacity(alloc, MOST_NOTES)?,
+            stopwatch: Stopwatch::new(alloc),
+            timers: Timers::new(now),
+            counted: NOTHING_COUNTED,
+            journal: NO_JOURNAL,
             options,
+            most_records,
             program,
-            acts: VecDeque::new(alloc),
-        })
+            now,
+            limit: 0,
+            is_failing: false,
+            has_more: true,
+            shuts: false,
+            ending: None,
+            over: None,
+            is_over: false,
+        };
+        machine.tell(Note::Started {
+            clients: options.most_clients,
+            wanted: options.wanted,
+            has_tokens,
+        });
+        machine.follow_all(form, peers)?;
+        Ok(machine)
     }
 
-    /// A connection has come: who it is. `None` where it is turned away, and to be closed.
-    pub fn came(&mut self, now: u64) -> Option<ClientId> {
-        let _ = now;
-        None
-    }
-
-    /// Bytes of a client came, at most 16,384 at once and only where `wants` says so: how many are taken. It takes all, or
-    /// the client is to go.
-    pub fn bytes(&mut self, who: ClientId, bytes: &[u8], now: u64) -> usize {
-        let _ = (who, now);
-        bytes.len()
-    }
-
-    /// Whether bytes of a client are wanted now. Where they are not, `Action::Hear` says when they are. Of a client whose
-    /// way out was shut they always are, and are dropped.
-    pub fn wants(&self, who: ClientId) -> bool {
-        self.clients.wants(who)
-    }
-
-    /// The other end of a client's connection has said all.
-    pub fn ended(&mut self, who: ClientId, now: u64) {
-        let _ = (who, now);
-    }
-
-    /// A client's connection has failed, and is closed: nothing is known of it any more.
-    pub fn gone(&mut self, who: ClientId, now: u64) {
-        let _ = (who, now);
-    }
-
-    /// The next bytes to be written to a client; none where it is not there.
-    pub fn output(&self, who: ClientId) -> &[u8] {
-        self.clients.output(who)
-    }
-
-    /// The first so many of these were written.
-    pub fn sent(&mut self, who: ClientId, count: usize, now: u64) {
-        let _ = (who, count, now);
-    }
-
-    /// The name of the peer of this number, as it was given; nothing where there is no such peer.
-    pub fn peer_name(&self, peer: u16) -> &str {
-        match self.peers.get(peer as usize) {
-            Some(peer) => peer.address.as_str(),
-            None => "",
+    /// Follows these peers.
+    fn follow_all(&mut self, form: Form, peers: Vec<PeerAt>) -> Result<(), OutOfMemory> {
+        for peer in peers {
+            let number = u16::try_from(self.peers.len()).map_err(|_| OutOfMemory)?;
+            let PeerAt { address, token } = peer;
+            let program = Vec::from_slice(self.alloc, &self.program)?;
+            let peer = Peer::new(self.alloc, address, form, program, token, self.now);
+            self.conns.reserve()?;
+            let Ok(who) = self.clients.come_as(Rights::All) else {
+                return Err(OutOfMemory);
+            };
+            if !self.conns.place(who, Some(number), self.now) {
+                return Err(OutOfMemory);
+            }
+            self.watchers.place(who)?;
+            self.peers.push(Followed::new(peer, who))?;
         }
+        Ok(())
     }
 
-    /// A peer's address was sought (`PeerAction::Seek`), and found or not.
-    pub fn found(&mut self, peer: u16, is_found: bool, now: u64) {
-        let _ = (peer, is_found, now);
-    }
-
-    /// The connection of this number to a peer is there.
-    pub fn connected(&mut self, peer: u16, number: u64, now: u64) {
-        let _ = (peer, number, now);
-    }
-
-    /// Bytes of the connection of this number to a peer came, at most 16,384 behind each `PeerAction::Hear`.
-    pub fn peer_bytes(&mut self, peer: u16, number: u64, bytes: &[u8], now: u64) {
-        let _ = (peer, number, bytes, now);
-    }
-
-    /// The connection of this number to a peer has ended, or could not be made.
-    pub fn peer_ended(&mut self, peer: u16, number: u64, now: u64) {
-        let _ = (peer, number, now);
-    }
-
-    /// The bytes to be sent by the connection of this number to a peer.
-    pub fn peer_output(&self, peer: u16, number: u64) -> &[u8] {
-        let _ = (peer, number);
-        b""
-    }
-
-    /// So many of these were sent.
-    pub fn peer_sent(&mut self, peer: u16, number: u64, count: usize, now: u64) {
-        let _ = (peer, number, count, now);
-    }
-
-    /// Of so long a log may be told from now on, all of it where there is no journal; and whether the journal can't be
-    /// written: then records of clients are refused 14, and peers wait.
-    pub fn told_up_to(&mut self, limit: u32, is_failing: bool, now: u64) {
-        let _ = (is_failing, now);
-        self.clients.told_up_to(limit);
-    }
-
-    /// The journal can't be written until the end: the host ends.
-    pub fn journal_failed(&mut self) {
-        let _ = Ending::Journal;
-    }
-
-    /// How many records the log has.
-    pub fn len(&self) -> u32 {
-        self.clients.room().len()
-    }
-
-    /// Puts the records of the log behind its first `count` into the list, at most so many, in their order. `Err` changes
-    /// nothing.
-    pub fn records_behind(
-        &self,
-        count: u32,
-        most: u32,
-        list: &mut Vec<Record>,
-    ) -> Result<(), OutOfMemory> {
-        self.clients.room().records_behind(count, most, list)
-    }
-
-    /// This is so of the journal and of the listener.
-    pub fn seen(&mut self, seen: JournalSeen) {
-        let _ = seen;
-    }
-
-    /// Hears lines of clients, has the room work for a while, and hands on what may be told. Whether there is more to do
-    /// at once.
-    pub fn turn<P: LastDone<T>>(&mut self, now: u64) -> bool {
-        let _ = now;
-        false
-    }
-
-    /// Looks at what is late: clients, peers, and what an operator is told once a second.
-    pub fn tick(&mut self, now: u64) {
-        let _ = now;
-    }
-
-    /// The next moment at which there is something to do though nothing comes: 0 where that is now.
-    pub fn due(&self) -> u64 {
-        u64::MAX
-    }
-
-    /// Standard input has ended: no more connections are let in, what clients said is answered, and the host ends once they
-    /// are gone, within ten seconds.
-    pub fn input_ended(&mut self, now: u64) {
-        let _ = now;
-    }
-
-    /// What is to be done next; none where nothing is. What it wants is asked for behind each other call.
-    pub fn next(&mut self) -> Option<Action> {
-        self.acts.pop_front()
+    /// An operator is to be told this.
+    pub(crate) fn tell(&mut self, note: Note) {
+        if self.notes.len() < MOST_NOTES {
+            // There is room: it was taken at the start.
+            let _ = self.notes.push_back(note);
+        }
     }
 
     /// What the text of a note names beside its fields.
@@ -207,4 +201,9 @@ impl<T: Timeline> Machine<T> {
             peer,
         }
     }
+}
+
+/// How many clients there may be with so many peers.
+fn most_of(clients: u32, peers: usize) -> u32 {
+    clients.saturating_add(u32::try_from(peers).unwrap_or(u32::MAX))
 }

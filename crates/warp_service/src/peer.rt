@@ -412,6 +412,11 @@ impl Peer {
         count
     }
 
+    /// Whether bytes of the connection of this number are wanted.
+    pub fn wants(&self, number: u64) -> bool {
+        self.contact.is_number(number) && self.contact.is_open() && self.contact.is_wanted()
+    }
+
     /// The bytes to be sent by the connection of this number; none of any other.
     pub fn output(&self, number: u64) -> &[u8]
         ensures { result.now ≡ (if is_number number self.now.contact then self.now.said else []) }
