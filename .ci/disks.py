@@ -46,14 +46,14 @@ static int is_journal(int file) {
     return strstr(path, ".journal") && !strstr(path, ".lock");
 }
 
-/* A sync takes so many milliseconds where there is a file `slow` in the folder FAULTS. */
-static void nap(void) {
+/* A sync takes so many milliseconds where there is a file `slow` in the folder FAULTS, a write where there is one `stuck`. */
+static void nap(const char *name) {
     char path[4096];
     const char *folder = getenv("FAULTS");
     long long_ms = word("SLOW", 0);
     struct timespec span = {long_ms / 1000, long_ms % 1000 * 1000000};
     if (!folder || !long_ms) return;
-    snprintf(path, sizeof path, "%s/slow", folder);
+    snprintf(path, sizeof path, "%s/%s", folder, name);
     if (access(path, F_OK) == 0) nanosleep(&span, 0);
 }
 
@@ -72,6 +72,7 @@ static int fails(long *count, const char *name) {
 ssize_t write(int file, const void *buffer, size_t size) {
     static ssize_t (*next)(int, const void *, size_t);
     if (!next) next = (ssize_t (*)(int, const void *, size_t))dlsym(RTLD_NEXT, "write");
+    if (is_journal(file)) nap("stuck");
     if (!is_journal(file) || !fails(&writes, "write")) return next(file, buffer, size);
     if (word("HALF", 0) && size > 1 && next(file, buffer, size / 2) < 0) return -1;
     errno = ENOSPC;
@@ -81,7 +82,7 @@ ssize_t write(int file, const void *buffer, size_t size) {
 int fdatasync(int file) {
     static int (*next)(int);
     if (!next) next = (int (*)(int))dlsym(RTLD_NEXT, "fdatasync");
-    if (is_journal(file)) nap();
+    if (is_journal(file)) nap("slow");
     if (!is_journal(file) || !fails(&syncs, "sync")) return next(file);
     errno = EDQUOT;
     return -1;
@@ -132,7 +133,7 @@ class Disk:
 
     def under(self, which=None, first=0, many=1, half=False, slow=0):
         """What the environment of a host over this disk has: where `which` is given, so many of these calls fail from the first on. A sync
-        takes so many seconds while the disk has the fault `slow`."""
+        takes so many seconds while the disk has the fault `slow`, and a write while it has `stuck`."""
         named = {"WHICH": which, "FIRST": str(first), "MANY": str(many)} if which else {}
         return {**os.environ, "LD_PRELOAD": str(self.library), "FAULTS": str(self.folder), "SLOW": str(round(1_000 * slow)), **named,
                 **({"HALF": "1"} if half else {})}

@@ -282,6 +282,31 @@ def left_with_more():
         same((room.file.read_bytes(), fresh.read_bytes()), (many, few), "the files")
 
 
+def left_by_users():
+    """What a host left in the fresh file is kept also where the journal's file is another user's, as a copy that was put in its place. What
+    neither of the two owns is not touched, and no host starts."""
+    holds(os.geteuid() == 0, "only root can give files to others")
+    with Room() as room:
+        fresh, aside = (Path(f"{room.file}.{it}") for it in ("new", "damaged"))
+        with room.host() as host:
+            old = fill(host, 1)
+        data = room.file.read_bytes()
+        more = journals.summed(data[:data.index(b"\n")], [*old, "event 0 77 0 0 1"])
+        fresh.write_bytes(more)
+        os.chown(room.file, ANOTHER_USER, -1)
+        room.holds_log(old, said=[is_kept(room.file, len(more)), journals.LEFT])
+        same((aside.read_bytes(), aside.stat().st_uid), (more, 0), "what is kept aside")
+        kept = room.file.read_bytes()
+        fresh.write_bytes(more)
+        os.chown(fresh, ANOTHER_USER, -1)
+        words = f"journal {room.file}: FILE.new is another user's: move it away\ncannot use the journal\n"
+        same(room.refused(4, words), words, "a start beside another user's")
+        same((room.file.read_bytes(), fresh.read_bytes(), aside.read_bytes()), (kept, more, more), "the files")
+        os.chown(room.file, ANOTHER_USER, -1)
+        room.holds_log(old, said=[is_kept(room.file, len(more)), journals.LEFT])
+        same(aside.read_bytes(), more * 2, "what is kept aside")
+
+
 def own_lock():
     """The file of a lock is made for its owner alone: who may read it may hold it. One that is there keeps its mode."""
     with Room() as room:
@@ -339,4 +364,4 @@ def not_begun():
         same([it.name for it in Path(room.folder.name).iterdir()], [room.file.name], "what stands there")
 
 
-CASES = [one_host, moved, replaced, permissions, beside, no_file, left_with_more, own_lock, lets_go, not_begun]
+CASES = [one_host, moved, replaced, permissions, beside, no_file, left_with_more, left_by_users, own_lock, lets_go, not_begun]

@@ -1,4 +1,4 @@
-"""The cases of `.ci/journal` over disks that are slow: a sync takes seconds, and nothing waits for it but who has to."""
+"""The cases of `.ci/journal` over disks that are slow: a sync takes seconds, and nothing waits for it but who has to; so does a write."""
 
 import signal
 import time
@@ -103,4 +103,28 @@ def slow_and_failing():
         room.holds_log([f"event 0 {at} 0 0 1" for at in range(1, 5)])
 
 
-CASES = [slow_syncs, slow_always, slow_and_failing]
+def stuck_write():
+    """A write that takes more than five seconds is told once, and the page of metrics tells what waits for it; what was answered is in the file."""
+    with Disk() as disk, Room() as room:
+        host = room.host("--sync", "10", env=disk.under(slow=SLOW + 2))
+        try:
+            talk = host.talk()
+            same(talk.ask("event 0 1 0 0 1"), "taken 1", "a record")
+            wait_for(lambda: numbers(host)["records"] == 1, "it is synced", 10)
+            disk.fail("stuck")
+            talk.send(b"event 0 2 0 0 1\n")
+            seen = wait_for(lambda: (it := numbers(host))["unsynced_seconds"] > 2 and it, "what waits", 10)
+            same((seen["records"], seen["unsynced_records"]), (1, 1), "what the page tells")
+            wait_for(lambda: remarks(host), "that it is slow", 10)
+            holds(is_silent(talk), "a record is told that is not written")
+            disk.heal("stuck")
+            same(talk.line(), "taken 2", "the answer")
+            same(host.talk().ask("event 0 3 0 0 1"), "taken 3", "a record behind it")
+            same(remarks(host), ["journal: the disk is slow: a write takes more than five seconds, and 1 record is not written"], "what is said")
+            host.finish()
+        finally:
+            host.kill()
+        room.checked(3)
+
+
+CASES = [slow_syncs, slow_always, slow_and_failing, stuck_write]

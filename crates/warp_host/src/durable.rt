@@ -12,6 +12,23 @@ use std::time::Duration;
 /// What is noted where nothing waits for the disk.
 const NOTHING_WAITS: u64 = u64::MAX;
 
+/// A write that takes longer is told, in milliseconds.
+const SLOW: u64 = 5_000;
+
+/// This moment, in milliseconds of the clock, or that there is none.
+fn moment_of(since: Option<Duration>) -> u64 {
+    match since {
+        Some(since) => u64::try_from(since.as_millis()).unwrap_or(0),
+        None => NOTHING_WAITS,
+    }
+}
+
+/// How many milliseconds have passed since this moment.
+fn passed(now: Duration, since: u64) -> u64 {
+    let now = u64::try_from(now.as_millis()).unwrap_or(0);
+    now.saturating_sub(since)
+}
+
 /// Of which records may be told.
 #[derive(Clone, Copy, Debug, PartialEq, Eq)]
 pub(crate) enum Tells {
@@ -38,10 +55,14 @@ fn longest(tells: Tells, written: u32, synced: u32) -> u32
 #[derive(Drop)]
 pub(crate) struct Durable {
     tells: Tells,
+    // How many records were taken to be written.
+    taken: AtomicU32,
     written: AtomicU32,
     synced: AtomicU32,
-    // Since when, in milliseconds of the clock, the oldest record waits that is written and not synced.
+    // Since when, in milliseconds of the clock, the oldest record waits that was taken and is not synced.
     waits_since: AtomicU64,
+    // Since when a write goes on.
+    writes_since: AtomicU64,
     parker: Parker,
     scribe_sleeps: AtomicBool,
     is_over: AtomicBool,
@@ -58,9 +79,11 @@ impl Durable {
     pub(crate) fn new(tells: Tells, count: u32) -> Durable {
         Durable {
             tells,
+            taken: AtomicU32::new(count),
             written: AtomicU32::new(count),
             synced: AtomicU32::new(count),
             waits_since: AtomicU64::new(NOTHING_WAITS),
+            writes_since: AtomicU64::new(NOTHING_WAITS),
             parker: Parker::new(),
             scribe_sleeps: AtomicBool::new(false),
             is_over: AtomicBool::new(false),
@@ -87,6 +110,28 @@ impl Durable {
         self.synced.load(Ordering::SeqCst)
     }
 
+    /// How many records wait to be handed to the system, and how many wait for the disk in all.
+    pub(crate) fn waiting(&self) -> (u32, u32) {
+        let written = self.written();
+        let taken = self.taken.load(Ordering::SeqCst).max(written);
+        (taken - written, taken.saturating_sub(self.synced()))
+    }
+
+    /// So many records were taken to be written.
+    pub(crate) fn note_taken(&self, count: u32) {
+        self.taken.store(count, Ordering::SeqCst);
+    }
+
+    /// A write goes on since then, or none does.
+    pub(crate) fn note_writing(&self, since: Option<Duration>) {
+        self.writes_since.store(moment_of(since), Ordering::SeqCst);
+    }
+
+    /// Whether a write goes on for long.
+    pub(crate) fn is_write_slow(&self, now: Duration) -> bool {
+        passed(now, self.writes_since.load(Ordering::SeqCst)) > SLOW
+    }
+
     /// So many records are handed to the system now.
     pub(crate) fn note_written(&self, written: Written) {
         self.written.store(written.count(), Ordering::SeqCst);
@@ -97,20 +142,14 @@ impl Durable {
         self.synced.store(synced.count(), Ordering::SeqCst);
     }
 
-    /// Since when the oldest record waits that is written and not synced, if one does.
+    /// Since when the oldest record waits that was taken and is not synced, if one does.
     pub(crate) fn note_waiting(&self, since: Option<Duration>) {
-        let millis = match since {
-            Some(since) => u64::try_from(since.as_millis()).unwrap_or(0),
-            None => NOTHING_WAITS,
-        };
-        self.waits_since.store(millis, Ordering::SeqCst);
+        self.waits_since.store(moment_of(since), Ordering::SeqCst);
     }
 
-    /// For how many milliseconds the oldest record waits that is written and not synced.
+    /// For how many milliseconds the oldest record waits that was taken and is not synced.
     pub(crate) fn waits(&self, now: Duration) -> u64 {
-        let since = self.waits_since.load(Ordering::SeqCst);
-        let now = u64::try_from(now.as_millis()).unwrap_or(0);
-        now.saturating_sub(since)
+        passed(now, self.waits_since.load(Ordering::SeqCst))
     }
 
     /// The journal's thread is about to sleep: what is handed to it from now on wakes it.

@@ -129,6 +129,11 @@ fn path_beside(alloc: Global, path: &str) -> Result<String, AllocError> {
 /// Who may read and write the files of a journal that are made: their owner alone.
 pub(crate) const OWNER_ALONE: u32 = 0o600;
 
+/// Whether this user is the owner of the journal, which is this one, or the one that the host runs as.
+fn is_own(user: u32, owner: u32) -> bool {
+    user == owner || user == libc::geteuid()
+}
+
 /// The file at this path with `.damaged` behind its name, to which bytes are put that are cut off, of a journal of this
 /// owner; and its path. A file that has a second name, or is another's, is refused.
 fn open_aside<F: Files<File = File>>(
@@ -141,7 +146,7 @@ fn open_aside<F: Files<File = File>>(
     name.push_str(".damaged")?;
     let aside = open_regular(files, name.as_str(), OWNER_ALONE, FileFault::NoAside)?;
     let about = aside.metadata()?;
-    if about.nlink() != 1 || about.uid() != owner {
+    if about.nlink() != 1 || !is_own(about.uid(), owner) {
         return Err(FileFault::OtherAside);
     }
     Ok((aside, name))
@@ -180,20 +185,27 @@ fn keep_permissions(fresh: &File, permissions: Permissions) -> Result<(), FileFa
     Ok(())
 }
 
-/// Which file stands at this path, where it is a regular one of one name that belongs to this user; no link is followed.
-fn left_by<F: Files<File = File>>(files: &F, path: &str, owner: u32) -> Option<FileId> {
+/// Which file stands at this path, where it is a regular one of one name; no link is followed. One that is neither of the
+/// journal's owner, which is this one, nor of the host's user is refused.
+fn left_by<F: Files<File = File>>(
+    files: &F,
+    path: &str,
+    owner: u32,
+) -> Result<Option<FileId>, FileFault> {
     let Ok(about) = fs::symlink_metadata(files, path) else {
-        return None;
+        return Ok(None);
     };
-    if about.is_file() && about.nlink() == 1 && about.uid() == owner {
-        Some(id_of(&about))
-    } else {
-        None
+    if !about.is_file() || about.nlink() != 1 {
+        return Ok(None);
     }
+    if !is_own(about.uid(), owner) {
+        return Err(FileFault::OtherFresh);
+    }
+    Ok(Some(id_of(&about)))
 }
 
-/// The fresh file that the owner of the journal at this place left beside it, from its beginning; `None` where none is
-/// there, or what is removed without a look: a link, a second name of a file, and what is another user's.
+/// The fresh file that a host left beside the journal at this place, from its beginning; `None` where none is there, or
+/// what is removed without a look: a link, or a second name of a file. What is another user's is refused.
 pub(crate) fn open_left<F: Files<File = File>>(
     files: &F,
     alloc: Global,
@@ -201,7 +213,7 @@ pub(crate) fn open_left<F: Files<File = File>>(
 ) -> Result<Option<File>, FileFault> {
     let name = path_beside(alloc, place.path.as_str())?;
     let owner = fs::metadata(files, place.path.as_str())?.uid();
-    let Some(left) = left_by(files, name.as_str(), owner) else {
+    let Some(left) = left_by(files, name.as_str(), owner)? else {
         return Ok(None);
     };
     let file = OpenOptions::new()
@@ -232,10 +244,10 @@ fn remove<F: Files<File = File>>(files: &F, path: &str) -> Result<(), FileFault>
     }
 }
 
-/// Opens the fresh file at this path: the one that the journal's owner left there, which stays as a mark until it is
-/// written, or a new one for its owner alone. What else stands there is removed: nothing is written through a link.
+/// Opens the fresh file at this path: the one that a host left there, which stays as a mark until it is written, or a new
+/// one for its owner alone. What else stands there is removed: nothing is written through a link.
 fn open_fresh<F: Files<File = File>>(files: &F, path: &str, owner: u32) -> Result<File, FileFault> {
-    if let Some(left) = left_by(files, path, owner) {
+    if let Ok(Some(left)) = left_by(files, path, owner) {
         let file = OpenOptions::new().write(true).open(files, path)?;
         if id_of(&file.metadata()?) == left {
             return Ok(file);

@@ -276,6 +276,7 @@ fn make_worker<X: Offers + RandomSource, T: Timeline>(
         looked: now,
         has_more: false,
         is_over: false,
+        is_slow_write_told: false,
         machine,
     })
 }

@@ -52,6 +52,8 @@ pub enum FileFault {
     OtherAside,
     /// What stands beside it with `.new` behind its name is a folder.
     NoFresh,
+    /// What stands beside it with `.new` behind its name is neither its owner's nor the host's user's.
+    OtherFresh,
     /// It has no record, and the fresh file beside it may have some.
     OnlyCopy,
 }
@@ -88,6 +90,7 @@ impl FileFault {
             FileFault::NoAside => Some("FILE.damaged is no regular file"),
             FileFault::OtherAside => Some("FILE.damaged has a second name, or is another user's"),
             FileFault::NoFresh => Some("FILE.new is a folder"),
+            FileFault::OtherFresh => Some("FILE.new is another user's: move it away"),
             FileFault::OnlyCopy => Some(
                 "it has no record, and FILE.new may have some: put that in its place, or move it away",
             ),
@@ -129,6 +132,7 @@ pub fn tell_file_fault<X: Eprint>(rt: &X, path: &str, fault: FileFault) -> OpenF
         | FileFault::NoAside
         | FileFault::OtherAside
         | FileFault::NoFresh
+        | FileFault::OtherFresh
         | FileFault::OnlyCopy => {
             let why = fault.words().unwrap_or("");
             let _ = eprintln!(rt; "journal {path}: {why}");

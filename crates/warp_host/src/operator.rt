@@ -59,6 +59,14 @@ pub(crate) fn tell_journal_renewed<X: Eprint>(rt: &X, count: u32) {
     let _ = eprintln!(rt; "journal: written anew, with {count} record{s}");
 }
 
+/// Tells that a write takes long, while so many records wait for it.
+pub(crate) fn tell_slow_write<X: Eprint>(rt: &X, waiting: u32) {
+    let (s, are) = plural(u64::from(waiting));
+    let _ = eprintln!(rt;
+        "journal: the disk is slow: a write takes more than five seconds, and {waiting} record{s} {are} not written"
+    );
+}
+
 /// Tells that a sync takes long, while so many records wait for the disk.
 pub(crate) fn tell_slow_sync<X: Eprint>(rt: &X, waiting: u32) {
     let (s, are) = plural(u64::from(waiting));

@@ -101,9 +101,19 @@ impl<'a> Scribe<'a> {
         }
     }
 
+    /// Writes what was taken, if anything was; how long that takes is to be seen meanwhile.
+    fn write(&mut self, is_new: bool, second: u64, now: Duration) -> Result<(), Failed> {
+        self.durable
+            .note_waiting(self.syncs.waits_since().or(self.behind_since));
+        self.durable.note_writing(Some(now));
+        let done = self.write_out(is_new, second, now);
+        self.durable.note_writing(None);
+        done
+    }
+
     /// Writes what was taken, if anything was. Where a sync is due and no other is under way, that ends a batch, and a sync
     /// is asked for.
-    fn write(&mut self, is_new: bool, second: u64, now: Duration) -> Result<(), Failed> {
+    fn write_out(&mut self, is_new: bool, second: u64, now: Duration) -> Result<(), Failed> {
         if self.is_due(now) && self.syncs.may_ask() {
             let written = end_batch(&mut self.keeper, second)?;
             self.let_written(written);
@@ -173,6 +183,7 @@ impl<'a> Scribe<'a> {
             self.bells.wake_worker();
         }
         if taken > 0 {
+            self.durable.note_taken(self.keeper.len());
             self.behind_since = Some(self.behind_since.unwrap_or(now));
         }
         self.write(taken > 0, second, now)?;

@@ -85,6 +85,7 @@ pub(crate) struct Worker<T: Timeline> {
     /// The machine has more to do at once.
     pub(crate) has_more: bool,
     pub(crate) is_over: bool,
+    pub(crate) is_slow_write_told: bool,
     pub(crate) machine: Machine<T>,
 }
 
@@ -164,7 +165,7 @@ impl<T: Timeline> Worker<T> {
         self.look_at_journal(shared.durable);
         self.take_found();
         self.has_more = self.machine.turn::<P>(self.now);
-        self.tick(shared.durable);
+        self.tick(rt, shared.durable);
         self.act(rt);
         if let Some(handing) = &mut self.ends.handing {
             handing.hand(&self.machine, shared.durable);
@@ -388,7 +389,7 @@ impl<T: Timeline> Worker<T> {
     }
 
     /// Has the machine do what is due, and looks at what no event tells of.
-    fn tick(&mut self, durable: &Durable) {
+    fn tick<X: Eprint>(&mut self, rt: &X, durable: &Durable) {
         if self.machine.due() <= self.now {
             self.machine.seen(self.seen(durable));
             self.machine.tick(self.now);
@@ -403,14 +404,25 @@ impl<T: Timeline> Worker<T> {
         if let Some(entrance) = &mut self.entrance {
             entrance.try_again();
         }
+        self.tell_slow_write(rt, durable);
+    }
+
+    /// Tells once that a write of the journal takes long, until none does.
+    fn tell_slow_write<X: Eprint>(&mut self, rt: &X, durable: &Durable) {
+        let is_slow = durable.is_write_slow(Duration::from_micros(self.now));
+        if is_slow && !self.is_slow_write_told {
+            let (unwritten, _) = durable.waiting();
+            operator::tell_slow_write(rt, unwritten);
+        }
+        self.is_slow_write_told = is_slow;
     }
 
     /// What the system knows that is measured.
     fn seen(&self, durable: &Durable) -> JournalSeen {
-        let synced = durable.synced();
+        let (_, unsynced) = durable.waiting();
         JournalSeen {
-            records: synced,
-            unsynced: durable.written().saturating_sub(synced),
+            records: durable.synced(),
+            unsynced,
             waits: durable.waits(Duration::from_micros(self.now)),
             undescribed: match &self.entrance {
                 Some(entrance) => entrance.undescribed,

@@ -570,6 +570,15 @@ impl Client {
         self.finish(commons);
     }
 
+    /// Nothing more is heard: a line that is not ended is dropped.
+    pub(crate) fn stop(&mut self, commons: &mut Commons)
+        ensures board { commons.new.reader ≡ commons.old.reader }
+        ensures rights { self.new.rights ≡ self.old.rights }
+    {
+        self.feed = Feed::new();
+        self.end(commons);
+    }
+
     /// Where no more bytes come and all is answered: refuses a last line that has no line feed, and is over.
     fn finish(&mut self, commons: &mut Commons)
         ensures board { commons.new.reader ≡ commons.old.reader }

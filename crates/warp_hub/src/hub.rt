@@ -252,6 +252,18 @@ impl Hub {
         self.follow(client, false);
     }
 
+    /// Nothing more is heard of a client, since the host ends: of a line that is not ended it is not known what it says, so it
+    /// is dropped and gets no answer. The client is over once all its lines are answered.
+    pub fn stop(&mut self, client: ClientId)
+        ensures { self.new ≡ self.old }
+    {
+        let Some(place) = self.places.get_mut(client.key as usize) else {
+            return;
+        };
+        place.stop(client.round, &mut self.commons);
+        self.follow(client, false);
+    }
+
     /// Fetches the answers that are there, and hands each to who asked; one of a log that is longer than this stays
     /// where it is, with all behind it on its lane.
     pub fn fetch(&mut self, durable: u32, board: &Board)

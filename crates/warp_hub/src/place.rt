@@ -277,6 +277,19 @@ impl Place {
         }
     }
 
+    /// Nothing more is heard of the client that has it in this use: a line that is not ended is dropped.
+    pub(crate) fn stop(&mut self, round: u64, commons: &mut Commons)
+        ensures board { commons.new.reader ≡ commons.old.reader }
+        ensures same { self.new ≡ self.old }
+    {
+        if self.round != round {
+            return;
+        }
+        if let Some(client) = &mut self.client {
+            client.stop(commons);
+        }
+    }
+
     /// So many bytes were written to the client that has it in this use.
     pub(crate) fn written(&mut self, round: u64, count: usize)
         ensures { self.new ≡ self.old }

@@ -39,7 +39,7 @@ pub struct Seen {
     pub forbidden: u64,
     /// Records on the disk.
     pub journal_records: u64,
-    /// Records that are written and not on the disk.
+    /// Records that are not on the disk.
     pub journal_unsynced: u64,
     /// For how many milliseconds the oldest of these waits.
     pub journal_waits: u64,
@@ -276,7 +276,7 @@ fn journal(seen: &Seen) -> [Row<'static>; 3] {
         number(
             b"warpd_journal_unsynced_records",
             GAUGE,
-            b"Records of the journal that are written and not on the disk.",
+            b"Records of the journal that are not on the disk.",
             seen.journal_unsynced,
         ),
         number(
@@ -288,13 +288,13 @@ fn journal(seen: &Seen) -> [Row<'static>; 3] {
     ]
 }
 
-/// Writes for how long the oldest record waits that is written and not on the disk.
+/// Writes for how long the oldest record waits that is not on the disk.
 fn write_waits(text: &mut Vec<u8>, millis: u64) -> Result<(), AllocError> {
     write_head(
         text,
         b"warpd_journal_unsynced_seconds",
         GAUGE,
-        b"How long the oldest record waits that is written and not on the disk.",
+        b"How long the oldest record waits that is not on the disk.",
     )?;
     text.extend_from_slice(b"warpd_journal_unsynced_seconds ")?;
     write_seconds(text, millis.saturating_mul(1_000))?;
