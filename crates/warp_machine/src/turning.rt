@@ -3,7 +3,8 @@
 use crate::conns::Want;
 use crate::machine::Machine;
 use crate::start::LastDone;
-use warp_clients::{Answers, ClientId, Worked};
+use std::alloc::Global;
+use warp_clients::{Answers, ClientId, Kind, Worked};
 use warp_line::Timeline;
 
 /// So many lines are answered at once at most, before the steps that they want are made.
@@ -171,11 +172,28 @@ impl<T: Timeline> Machine<T> {
                 return;
             };
             self.refresh(who);
-            if self.clients.may_say(who) {
+            if self.may_talk(who) {
                 self.conns.talk(who);
             }
         }
         self.has_more = true;
+    }
+
+    /// Whether a client may say something: bytes of it wait, or nobody knows.
+    fn may_talk(&self, who: ClientId) -> bool {
+        if !self.clients.may_say(who) {
+            return false;
+        }
+        let is_line = self.clients.kind(who) == Kind::Lines;
+        !is_line || !self.clients.wants(who) || self.has_rest(who)
+    }
+
+    /// Whether bytes of a client wait for which it had no room.
+    fn has_rest(&self, who: ClientId) -> bool {
+        match self.conns.get(who) {
+            Some(conn) => !conn.rest.is_empty(),
+            None => false,
+        }
     }
 
     /// Has the room work.
@@ -238,7 +256,7 @@ impl<T: Timeline> Machine<T> {
 }
 
 /// Lets go of the first so many of these bytes; where none are left, of their memory.
-fn drop_front(alloc: std::alloc::Global, bytes: &mut Vec<u8>, count: usize) {
+fn drop_front(alloc: Global, bytes: &mut Vec<u8>, count: usize) {
     if count >= bytes.len() {
         *bytes = Vec::new(alloc);
         return;
