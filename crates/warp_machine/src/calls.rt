@@ -220,6 +220,7 @@ impl<T: Timeline> Machine<T> {
         if conn.peer.is_some() || conn.lingers.is_some() {
             return;
         }
+        conn.ceases = !conn.is_deaf;
         conn.is_deaf = true;
         match kind {
             Kind::Lines | Kind::Web => self.say(who),

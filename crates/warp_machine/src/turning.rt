@@ -121,9 +121,19 @@ impl<T: Timeline> Machine<T> {
         }
         if ends {
             conn.is_deaf_told = true;
-            self.clients.end(who);
+            let ceases = conn.ceases;
+            self.end_client(who, ceases);
         }
         false
+    }
+
+    /// A client has said all, or nothing more of it is heard since the host ends.
+    fn end_client(&mut self, who: ClientId, ceases: bool) {
+        if ceases {
+            self.clients.cease(who);
+        } else {
+            self.clients.end(who);
+        }
     }
 
     /// Looks at a client of whose connection something may be wanted now.
@@ -188,10 +198,10 @@ impl<T: Timeline> Machine<T> {
         !is_line || !self.clients.wants(who) || self.has_rest(who)
     }
 
-    /// Whether bytes of a client wait for which it had no room.
+    /// Whether bytes of a client wait for which it had no room, or no more come.
     fn has_rest(&self, who: ClientId) -> bool {
         match self.conns.get(who) {
-            Some(conn) => !conn.rest.is_empty(),
+            Some(conn) => conn.is_deaf || !conn.rest.is_empty(),
             None => false,
         }
     }
@@ -242,9 +252,20 @@ impl<T: Timeline> Machine<T> {
         if let Worked::NoMemory = self.clients.work(0, MOST_STEPS) {
             return false;
         }
-        if self.clients.room().is_settled() {
-            return self.clients.show().is_ok();
+        !self.clients.room().is_settled() || self.show()
+    }
+
+    /// Shows what is released, of a room whose steps are all made, where its log has grown. `false` where there was no
+    /// memory.
+    pub(crate) fn show(&mut self) -> bool {
+        let len = self.clients.room().len();
+        if self.shown == Some(len) {
+            return true;
         }
+        if self.clients.show().is_err() {
+            return false;
+        }
+        self.shown = Some(len);
         true
     }
 
