@@ -74,6 +74,8 @@ pub(crate) struct Client {
     pub(crate) is_listed: bool,
     /// What it watches.
     pub(crate) watches: Subjects,
+    /// It is over once it has said the whole lines that came.
+    pub(crate) ceases: bool,
 }
 
 impl Model for Client {
@@ -119,6 +121,7 @@ impl Client {
             is_closed: false,
             is_listed: false,
             watches: NO_SUBJECTS,
+            ceases: false,
         }
     }
 
@@ -224,8 +227,8 @@ impl Client {
             Ok(Said::Requests) => Listened::Requests,
             Ok(Said::Upgrade) => Listened::Upgrade,
             Ok(Said::More) => Listened::More,
-            Ok(Said::Nothing) => Listened::Nothing,
-            Ok(Said::End) => {
+            Ok(Said::Nothing) if !self.ceases || self.wire.is_behind() => Listened::Nothing,
+            Ok(Said::Nothing) | Ok(Said::End) => {
                 self.has_ended = true;
                 Listened::Ended
             }

@@ -67,7 +67,28 @@ impl Places {
     }
 }
 
+impl Places {
+    /// The client is over once the whole lines that came of it are answered.
+    fn cease(&mut self, who: ClientId)
+        ensures { self.new ≡ self.old }
+    {
+        let at = who.key as usize;
+        if at >= self.clients.len() || !self.clients[at].is_me(who) {
+            return;
+        }
+        self.clients[at].ceases = true;
+    }
+}
+
 impl Crowd {
+    /// A client is over once the whole lines that came of it are answered.
+    fn cease(&mut self, who: ClientId)
+        ensures { self.new ≡ self.old }
+    {
+        self.places.cease(who);
+        self.note(who);
+    }
+
     /// Asks a client's other end for a sign of it.
     fn ping(&mut self, who: ClientId)
         ensures { Moves who self.old self.new }
@@ -103,6 +124,14 @@ impl<T: Timeline> Clients<T> {
         ensures { SomeRun (facts_of T.settled T.refused T.floor T.SLACK) self.old self.new }
     {
         self.crowd.stop(who);
+    }
+
+    /// Nothing more is heard of a client: it is over once the whole lines that came of it are answered. Of a line that is not
+    /// ended it is not known what it says, so it gets no answer.
+    pub fn cease(&mut self, who: ClientId)
+        ensures { self.new ≡ self.old }
+    {
+        self.crowd.cease(who);
     }
 
     /// What a client's connection speaks; `Kind::Over` where it is not there.

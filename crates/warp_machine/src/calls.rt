@@ -48,17 +48,37 @@ impl<T: Timeline> Machine<T> {
             conn.answered = now;
             conn.sent = now;
         }
-        if bytes.len() > MOST_REST.saturating_sub(conn.rest.len())
-            || conn.rest.extend_from_slice(bytes).is_err()
-        {
-            self.conns.want(who, Want::Close);
-            return bytes.len();
-        }
+        let is_next = conn.rest.is_empty();
+        let heard = if is_next { self.hear(who, bytes) } else { 0 };
+        self.keep(who, &bytes[heard..]);
         self.say(who);
         if self.wants(who) {
             self.conns.unwant_hear(who);
         }
         bytes.len()
+    }
+
+    /// A client hears the first of these bytes for which it has room: how many; all where its connection is lost.
+    fn hear(&mut self, who: ClientId, bytes: &[u8]) -> usize {
+        match self.clients.hear(who, bytes) {
+            Ok(count) => count,
+            Err(_) => bytes.len(),
+        }
+    }
+
+    /// Keeps bytes of a client for which it had no room. Where there are too many, or no memory, it is to be closed.
+    fn keep(&mut self, who: ClientId, bytes: &[u8]) {
+        if bytes.is_empty() {
+            return;
+        }
+        let Some(conn) = self.conns.get_mut(who) else {
+            return;
+        };
+        if bytes.len() > MOST_REST.saturating_sub(conn.rest.len())
+            || conn.rest.extend_from_slice(bytes).is_err()
+        {
+            self.conns.want(who, Want::Close);
+        }
     }
 
     /// Whether bytes of a client are wanted now. Where they are not, `Action::Hear` says when they are. Of a client whose
@@ -200,6 +220,7 @@ impl<T: Timeline> Machine<T> {
         if conn.peer.is_some() || conn.lingers.is_some() {
             return;
         }
+        conn.ceases = !conn.is_deaf;
         conn.is_deaf = true;
         match kind {
             Kind::Lines | Kind::Web => self.say(who),

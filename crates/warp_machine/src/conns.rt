@@ -95,6 +95,8 @@ pub(crate) struct Conn {
     pub(crate) is_deaf: bool,
     /// Its client was told so.
     pub(crate) is_deaf_told: bool,
+    /// That is so since the host ends.
+    pub(crate) ceases: bool,
     /// It is known that there is output of it.
     pub(crate) is_writing: bool,
     is_talking: bool,
@@ -120,6 +122,7 @@ impl Conn {
             has_ended: false,
             is_deaf: false,
             is_deaf_told: false,
+            ceases: false,
             is_writing: false,
             is_talking: false,
             is_listed: false,

@@ -94,6 +94,8 @@ pub struct Machine<T: Timeline> {
     pub(crate) limit: u32,
     /// The journal can't be written.
     pub(crate) is_failing: bool,
+    /// How many records the log had when what is released was shown last.
+    pub(crate) shown: Option<u32>,
     /// There is more to do at once.
     pub(crate) has_more: bool,
     /// That nobody is let in any more is to be said.
@@ -146,6 +148,7 @@ impl<T: Timeline> Machine<T> {
             now,
             limit: 0,
             is_failing: false,
+            shown: None,
             has_more: true,
             shuts: false,
             ending: None,

@@ -14,8 +14,10 @@ const MOST_TIMES: u32 = 64;
 pub(crate) struct Followed {
     pub(crate) peer: Peer,
     who: ClientId,
-    /// There may be something to do.
+    /// Lines of it may be given on, or answers taken.
     is_due: bool,
+    /// It may want something.
+    is_wanting: bool,
 }
 
 impl Followed {
@@ -25,7 +27,14 @@ impl Followed {
             peer,
             who,
             is_due: true,
+            is_wanting: true,
         }
+    }
+
+    /// Something came of it.
+    fn note(&mut self) {
+        self.is_due = true;
+        self.is_wanting = true;
     }
 }
 
@@ -55,7 +64,7 @@ impl<T: Timeline> Machine<T> {
     /// Whether bytes of the connection of this number to a peer are wanted: from `PeerAction::Hear` on, until its lines wait.
     pub fn peer_wants(&self, peer: u16, number: u64) -> bool {
         match self.peers.get(peer as usize) {
-            Some(followed) => !self.is_failing && followed.peer.wants(number),
+            Some(followed) => followed.peer.wants(number),
             None => false,
         }
     }
@@ -94,7 +103,7 @@ impl<T: Timeline> Machine<T> {
         self.now = now;
         self.are_peers_due = true;
         let followed = self.peers.get_mut(peer as usize)?;
-        followed.is_due = true;
+        followed.note();
         Some(followed)
     }
 
@@ -129,10 +138,11 @@ impl<T: Timeline> Machine<T> {
             let fed = self.feed_from(at);
             let heard = self.answer_peer(at);
             if !fed && !heard {
+                self.peers[at].is_due = false;
                 return;
             }
+            self.peers[at].is_wanting = true;
         }
-        self.has_more = true;
     }
 
     /// Gives lines of a peer to its client; whether it took any.
@@ -173,19 +183,24 @@ impl<T: Timeline> Machine<T> {
                 return Some(action);
             }
         }
-        self.are_peers_due = false;
+        self.are_peers_due = self.is_any_due();
         None
+    }
+
+    /// Whether lines of some peer may be given on, or answers taken.
+    fn is_any_due(&self) -> bool {
+        self.peers.iter().any(|followed| followed.is_due)
     }
 
     /// What this peer wants next.
     fn next_of(&mut self, at: usize) -> Option<Action> {
         let followed = &mut self.peers[at];
-        if !followed.is_due {
+        if !followed.is_wanting {
             return None;
         }
         let number = u16::try_from(at).ok()?;
         let Some(action) = followed.peer.next(self.now) else {
-            followed.is_due = false;
+            followed.is_wanting = false;
             return None;
         };
         Some(match action {
@@ -211,7 +226,7 @@ impl<T: Timeline> Machine<T> {
         for followed in self.peers.iter_mut() {
             if followed.peer.next_moment() <= now {
                 followed.peer.tick(now);
-                followed.is_due = true;
+                followed.note();
                 self.are_peers_due = true;
             }
         }

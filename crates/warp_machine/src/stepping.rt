@@ -188,7 +188,7 @@ impl<T: Timeline> Machine<T> {
         if !self.clients.room().is_settled() {
             return Worked::More;
         }
-        let _ = self.clients.show();
+        let _shown = self.show();
         let room = self.steps.room();
         notes.begin_within(P::last_done(self.clients.room().replica().timeline()), room);
         let worked = self.clients.work(1, 0);

@@ -88,17 +88,25 @@ fn same(holds: bool, what: &'static str) -> Result<(), Fail> {
     if holds { Ok(()) } else { Err(what.into()) }
 }
 
-/// Names of nothing.
-fn labels(rt: &HostRuntime) -> Labels {
-    let alloc = rt.alloc();
-    Labels::new(
-        Vec::new(alloc),
-        Vec::new(alloc),
-        Vec::new(alloc),
-        Vec::new(alloc),
-        Vec::new(alloc),
-        Vec::new(alloc),
-    )
+/// These names.
+fn names(rt: &HostRuntime, texts: &[&str]) -> Result<Vec<String>, Fail> {
+    let mut list = Vec::new(rt.alloc());
+    for text in texts {
+        list.push(String::from_str(rt.alloc(), text)?)?;
+    }
+    Ok(list)
+}
+
+/// The names of the program `twice`.
+fn labels(rt: &HostRuntime) -> Result<Labels, Fail> {
+    Ok(Labels::new(
+        names(rt, &["total"])?,
+        names(rt, &["a", "b"])?,
+        names(rt, &["y"])?,
+        names(rt, &[])?,
+        names(rt, &[])?,
+        names(rt, &["y"])?,
+    ))
 }
 
 /// Tokens of this text.
@@ -150,7 +158,7 @@ fn host(rt: &HostRuntime, text: Option<&[u8]>, addresses: &[&str]) -> Result<Tri
             most_clients: 0,
             tokens: tokens(rt, text)?,
         },
-        labels: labels(rt),
+        labels: labels(rt)?,
         pages: pages(rt, text)?,
         peers: peers(rt, addresses)?,
         options: Options {
@@ -368,7 +376,7 @@ const LINES: &[Act] = &[
     Act::Says(0, b"event 0 5 0 0 3\nprogram\nvars\nvar 0\n"),
     Act::Wrote(0, b""),
     Act::Told(1, false),
-    Act::Wrote(0, b"taken 1\nprogram 1 x\nvars 1 6\nvar 1 6\n"),
+    Act::Wrote(0, b"taken 1\nprogram 1 x\nvars 1 3\nvar 1 3\n"),
     Act::Says(1, b"event 1 6 0 1 4\nwhat"),
     Act::Ends(1),
     Act::Wrote(1, b""),
@@ -395,17 +403,17 @@ const WATCHES: &[Act] = &[
     Act::Says(0, b"event 0 5 0 0 3\nwatch log 1\nwatch vars\n"),
     Act::Wrote(
         0,
-        b"taken 1\nwatching 1\nwatching 2\n* vars 1 6\n* log 1 event 0 5 0 0 3\n",
+        b"taken 1\nwatching 1\nwatching 2\n* vars 1 3\n* log 1 event 0 5 0 0 3\n",
     ),
     Act::Says(1, b"event 0 6 0 0 4\nevent 0 6 0 0 4\n"),
     Act::Wrote(1, b"taken 2\nknown 2\n"),
-    Act::Wrote(0, b"* log 2 event 0 6 0 0 4\n* vars 2 8\n"),
+    Act::Wrote(0, b"* log 2 event 0 6 0 0 4\n* vars 2 10\n"),
     Act::Says(0, b"unwatch log\nunwatch vars\nwatch breach\n"),
     Act::Wrote(0, b"watching 1\nwatching 0\nwatching 1\n* breach 2\n"),
     Act::Says(1, b"event 0 7 0 0 5\nwatch steps\nevent 0 8 0 0 1\n"),
     Act::Wrote(
         1,
-        b"taken 3\nwatching 1\ntaken 4\n* step {\"tag\":[8,0],\"due\":[],\"given\":{\"?0\":1},\"changed\":{\"?0\":2},\"outputs\":{},\"pending\":0}\n",
+        b"taken 3\nwatching 1\ntaken 4\n* step {\"tag\":[8,0],\"given\":{\"a\":1},\"due\":[],\"changed\":{\"total\":51},\"outputs\":{\"y\":51},\"pending\":0}\n",
     ),
     Act::Wrote(0, b""),
 ];
@@ -491,7 +499,7 @@ const ENDS: &[Act] = &[
     Act::Wrote(0, b""),
     Act::Over(false),
     Act::Told(u32::MAX, false),
-    Act::Wrote(0, b"taken 1\nrefused 1\n"),
+    Act::Wrote(0, b"taken 1\n"),
     Act::Shut(0),
     Act::Over(false),
     Act::Ends(0),

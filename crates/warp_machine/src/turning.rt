@@ -3,7 +3,8 @@
 use crate::conns::Want;
 use crate::machine::Machine;
 use crate::start::LastDone;
-use warp_clients::{Answers, ClientId, Worked};
+use std::alloc::Global;
+use warp_clients::{Answers, ClientId, Kind, Worked};
 use warp_line::Timeline;
 
 /// So many lines are answered at once at most, before the steps that they want are made.
@@ -120,9 +121,19 @@ impl<T: Timeline> Machine<T> {
         }
         if ends {
             conn.is_deaf_told = true;
-            self.clients.end(who);
+            let ceases = conn.ceases;
+            self.end_client(who, ceases);
         }
         false
+    }
+
+    /// A client has said all, or nothing more of it is heard since the host ends.
+    fn end_client(&mut self, who: ClientId, ceases: bool) {
+        if ceases {
+            self.clients.cease(who);
+        } else {
+            self.clients.end(who);
+        }
     }
 
     /// Looks at a client of whose connection something may be wanted now.
@@ -171,11 +182,28 @@ impl<T: Timeline> Machine<T> {
                 return;
             };
             self.refresh(who);
-            if self.clients.may_say(who) {
+            if self.may_talk(who) {
                 self.conns.talk(who);
             }
         }
         self.has_more = true;
+    }
+
+    /// Whether a client may say something: bytes of it wait, or nobody knows.
+    fn may_talk(&self, who: ClientId) -> bool {
+        if !self.clients.may_say(who) {
+            return false;
+        }
+        let is_line = self.clients.kind(who) == Kind::Lines;
+        !is_line || !self.clients.wants(who) || self.has_rest(who)
+    }
+
+    /// Whether bytes of a client wait for which it had no room, or no more come.
+    fn has_rest(&self, who: ClientId) -> bool {
+        match self.conns.get(who) {
+            Some(conn) => conn.is_deaf || !conn.rest.is_empty(),
+            None => false,
+        }
     }
 
     /// Has the room work.
@@ -224,9 +252,20 @@ impl<T: Timeline> Machine<T> {
         if let Worked::NoMemory = self.clients.work(0, MOST_STEPS) {
             return false;
         }
-        if self.clients.room().is_settled() {
-            return self.clients.show().is_ok();
+        !self.clients.room().is_settled() || self.show()
+    }
+
+    /// Shows what is released, of a room whose steps are all made, where its log has grown. `false` where there was no
+    /// memory.
+    pub(crate) fn show(&mut self) -> bool {
+        let len = self.clients.room().len();
+        if self.shown == Some(len) {
+            return true;
         }
+        if self.clients.show().is_err() {
+            return false;
+        }
+        self.shown = Some(len);
         true
     }
 
@@ -238,7 +277,7 @@ impl<T: Timeline> Machine<T> {
 }
 
 /// Lets go of the first so many of these bytes; where none are left, of their memory.
-fn drop_front(alloc: std::alloc::Global, bytes: &mut Vec<u8>, count: usize) {
+fn drop_front(alloc: Global, bytes: &mut Vec<u8>, count: usize) {
     if count >= bytes.len() {
         *bytes = Vec::new(alloc);
         return;

@@ -1,5 +1,5 @@
 //! What an operator is told of a peer: a line each second at most. Of what comes faster the newest is told when the second
-//! is over, with how many were left out.
+//! is over, with how many were left out; but each record of it that was refused is told, as it comes once for each reason.
 ghost use Rattle.std.specs.Prelude.{◌≡◌, ◌≢◌, Option, Some, None, true, false};
 ghost use Rattle.warp_service.specs.News.{TellsNews, WithEvent, WithReason, is_reason, is_start, news_moment, noted, with_loss};
 
@@ -14,15 +14,65 @@ const PAUSE: u64 = 1_000_000;
 pub enum PeerNews {
     /// What its follower says.
     Event(PeerEvent),
-    /// The connection to it was lost, though it was followed.
+    /// The connection to it was lost.
     Lost,
-    /// A connection could not be made, or was lost before it was followed.
+    /// A connection could not be made.
     Unreached,
+}
+
+/// So many refused records wait to be told at most: there are no more reasons.
+const MOST_REFUSED: usize = 16;
+
+/// Records of a peer that were refused, in the order in which they are told.
+#[derive(Clone, Copy, Debug)]
+pub struct RefusedRecords {
+    events: [Option<PeerEvent>; MOST_REFUSED],
+    count: usize,
+}
+
+impl RefusedRecords {
+    /// None.
+    fn new() -> RefusedRecords {
+        RefusedRecords {
+            events: [None; MOST_REFUSED],
+            count: 0,
+        }
+    }
+
+    /// This one waits behind the others; whether there was room.
+    fn push(&mut self, event: PeerEvent) -> bool {
+        if self.count >= MOST_REFUSED {
+            return false;
+        }
+        self.events[self.count] = Some(event);
+        self.count += 1;
+        true
+    }
+
+    /// Takes the first off.
+    fn pop(&mut self) -> Option<PeerEvent> {
+        if self.count == 0 {
+            return None;
+        }
+        let first = self.events[0];
+        for at in 1..MOST_REFUSED {
+            self.events[at - 1] = self.events[at];
+        }
+        self.count = self.count.saturating_sub(1);
+        first
+    }
+
+    /// Whether there is none.
+    fn is_empty(&self) -> bool {
+        self.count == 0
+    }
 }
 
 /// What is to be told of a peer.
 #[derive(Clone, Copy, Debug)]
 pub struct NewsOfPeer {
+    /// Records of it that were refused, which are told first.
+    pub refused: RefusedRecords,
     /// What is told next.
     pub waits: Option<PeerNews>,
     /// How many were left out in its favour.
@@ -40,9 +90,10 @@ pub struct NewsOfPeer {
 impl NewsOfPeer {
     /// Nothing came of it.
     pub fn new() -> NewsOfPeer
-        ensures { result ≡ record { waits = None; left_out = 0; told_at = None; is_found = false; reason = None; is_loss_noted = false } }
+        ensures { result ≡ record { refused = result.refused; waits = None; left_out = 0; told_at = None; is_found = false; reason = None; is_loss_noted = false } }
     {
         NewsOfPeer {
+            refused: RefusedRecords::new(),
             waits: None,
             left_out: 0,
             told_at: None,
@@ -70,6 +121,9 @@ impl NewsOfPeer {
             self.note_reason(event);
             return;
         }
+        if matches!(event, PeerEvent::Refused { .. }) && self.refused.push(event) {
+            return;
+        }
         self.note(PeerNews::Event(event));
         if is_start(event) {
             self.is_found = true;
@@ -89,12 +143,12 @@ impl NewsOfPeer {
         self.is_loss_noted = true;
     }
 
-    /// Its connection is lost, or none could be made.
-    pub fn note_loss(&mut self)
-        ensures { self.new ≡ with_loss self.old }
+    /// Its connection is lost, which was there, or none could be made.
+    pub fn note_loss(&mut self, was_there: bool)
+        ensures { self.new ≡ with_loss was_there self.old }
     {
         if !self.is_loss_noted {
-            let news = if self.is_found {
+            let news = if was_there {
                 PeerNews::Lost
             } else {
                 PeerNews::Unreached
@@ -116,7 +170,7 @@ impl NewsOfPeer {
     pub fn next_moment(&self) -> u64
         ensures { result ≡ news_moment self.now }
     {
-        if self.waits.is_none() {
+        if self.waits.is_none() && self.refused.is_empty() {
             return NEVER;
         }
         match self.told_at {
@@ -131,6 +185,10 @@ impl NewsOfPeer {
     {
         if self.next_moment() > now {
             return None;
+        }
+        if let Some(refused) = self.refused.pop() {
+            self.told_at = Some(now);
+            return Some((PeerNews::Event(refused), 0));
         }
         let news = self.waits?;
         let left_out = self.left_out;

@@ -195,7 +195,7 @@ impl Peer {
     fn forget(&mut self, now: u64)
         ensures { self.new ≡ forgotten now self.old }
     {
-        self.news.note_loss();
+        self.news.note_loss(self.contact.is_open());
         self.contact.lose(now);
         self.follower.lose();
         self.said.clear();
@@ -250,7 +250,10 @@ impl Peer {
         if !(self.contact.is_number(number) && self.contact.is_open()) {
             return;
         }
-        self.contact.note_bytes(now);
+        // A peer that ends no line is silent.
+        if bytes.contains(&b'\n') {
+            self.contact.note_bytes(now);
+        }
         self.keep(bytes);
         self.hear_kept();
         self.settle(now);
