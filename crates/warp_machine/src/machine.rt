@@ -167,7 +167,9 @@ impl<T: Timeline> Machine<T> {
     /// Follows these peers.
     fn follow_all(&mut self, form: Form, peers: Vec<PeerAt>) -> Result<(), OutOfMemory> {
         for peer in peers {
-            let number = u16::try_from(self.peers.len()).map_err(|_| OutOfMemory)?;
+            let Ok(number) = u16::try_from(self.peers.len()) else {
+                return Err(OutOfMemory);
+            };
             let PeerAt { address, token } = peer;
             let program = Vec::from_slice(self.alloc, &self.program)?;
             let peer = Peer::new(self.alloc, address, form, program, token, self.now);
