@@ -27,6 +27,7 @@ impl<T: Timeline> Machine<T> {
         if self.is_over {
             return false;
         }
+        self.has_more = false;
         self.hear_all();
         self.note_watched();
         self.stopwatch.begin(self.clients.counts().lines, now);
@@ -40,7 +41,7 @@ impl<T: Timeline> Machine<T> {
         self.look_at_changes();
         let replies = self.clients.counts().replies;
         self.stopwatch.end(replies, now);
-        self.has_more = match worked {
+        self.has_more |= match worked {
             Worked::Idle => false,
             Worked::More => true,
             Worked::Held | Worked::NoMemory => replies != before,
