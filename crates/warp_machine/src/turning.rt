@@ -66,6 +66,10 @@ impl<T: Timeline> Machine<T> {
 
     /// Asks a client what it says, and does it.
     pub(crate) fn say(&mut self, who: ClientId) {
+        if self.is_failing && self.is_peer(who) {
+            // Its records are not refused: they wait.
+            return;
+        }
         let wanted = self.wants(who);
         let was_fed = self.feed(who);
         let more = self.ask(who);
