@@ -160,6 +160,9 @@ impl<T: Timeline> Machine<T> {
     pub fn told_up_to(&mut self, limit: u32, is_failing: bool, now: u64) {
         self.now = now;
         self.has_more |= limit != self.limit || is_failing != self.is_failing;
+        if self.is_failing && !is_failing {
+            self.wake_peers();
+        }
         self.limit = limit;
         self.is_failing = is_failing;
         self.clients.told_up_to(limit);

@@ -56,6 +56,9 @@ impl<T: Timeline> Machine<T> {
     /// The next moment at which there is something to do though nothing comes: 0 where that is now.
     pub fn due(&self) -> u64 {
         let wants = self.conns.is_anything_wanted() || !self.notes.is_empty();
+        if self.is_over && !wants && self.over.is_none() {
+            return u64::MAX;
+        }
         let are_peers_due = self.are_peers_due && !self.is_failing;
         if self.is_busy() || wants || are_peers_due || self.over.is_some() || self.shuts {
             return 0;

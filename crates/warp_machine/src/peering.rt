@@ -119,6 +119,23 @@ impl<T: Timeline> Machine<T> {
         let _due = self.due_peer(number, now);
     }
 
+    /// Whether a client brings the lines of a peer.
+    pub(crate) fn is_peer(&self, who: ClientId) -> bool {
+        match self.conns.get(who) {
+            Some(conn) => conn.peer.is_some(),
+            None => false,
+        }
+    }
+
+    /// The journal can be written again: peers go on.
+    pub(crate) fn wake_peers(&mut self) {
+        self.are_peers_due = true;
+        for followed in self.peers.iter_mut() {
+            followed.note();
+            self.conns.talk(followed.who);
+        }
+    }
+
     /// Gives lines of peers to their clients, and takes the answers. Their records are not refused while the journal can't
     /// be written: they wait.
     pub(crate) fn go_on_with_peers(&mut self) {

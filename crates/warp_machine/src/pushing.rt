@@ -10,6 +10,9 @@ use warp_hub::Subject;
 use warp_line::Timeline;
 use warp_watch::{Question, Told};
 
+/// So many pages of a watcher follow each other in a turn at most.
+const MOST_PAGES: u32 = 8;
+
 /// More bytes do not wait for a client that is pushed to.
 const MOST_PUSHED: usize = 1 << 20;
 
@@ -25,22 +28,34 @@ impl<T: Timeline> Machine<T> {
 
     /// Tells what is due for who watches, where all is executed, and pushes what may be told.
     pub(crate) fn tell_watchers(&mut self) {
-        for _ in 0..MOST_TOLD {
+        self.hand_told();
+        for _ in 0..MOST_PAGES {
+            if !self.tell_some() {
+                return;
+            }
+            self.hand_told();
+        }
+        self.has_more = true;
+    }
+
+    /// Tells what is due for who watches, as far as it may wait; whether anything was.
+    fn tell_some(&mut self) -> bool {
+        for count in 0..MOST_TOLD {
             if !self.clients.room().is_settled() || !self.watchers.has_room() {
-                break;
+                return count > 0;
             }
             let Some(asked) = self.next_asked() else {
-                break;
+                return count > 0;
             };
             match self.clients.tell(asked.question) {
                 Ok(told) => self.watchers.keep(asked, told),
                 Err(_) => {
                     self.watchers.missed(asked);
-                    break;
+                    return false;
                 }
             }
         }
-        self.hand_told();
+        true
     }
 
     /// The greatest length of the log of which something was told.
@@ -50,7 +65,8 @@ impl<T: Timeline> Machine<T> {
 
     /// What is to be told next for who watches, which is on its way then.
     fn next_asked(&mut self) -> Option<Asked> {
-        let newest = self.newest();
+        // Also records count whose client has gone.
+        let newest = self.newest().max(self.clients.room().len().min(self.limit));
         if let Some(question) = self.watchers.due(newest) {
             return Some(Asked {
                 who: None,
@@ -102,7 +118,6 @@ impl<T: Timeline> Machine<T> {
                 _ => {}
             }
         }
-        self.has_more = true;
     }
 
     /// Pushes a page, to one watcher or to all.

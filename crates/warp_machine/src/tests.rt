@@ -403,7 +403,7 @@ const WATCHES: &[Act] = &[
     Act::Says(0, b"event 0 5 0 0 3\nwatch log 1\nwatch vars\n"),
     Act::Wrote(
         0,
-        b"taken 1\nwatching 1\nwatching 2\n* vars 1 3\n* log 1 event 0 5 0 0 3\n",
+        b"taken 1\nwatching 1\n* log 1 event 0 5 0 0 3\nwatching 2\n* vars 1 3\n",
     ),
     Act::Says(1, b"event 0 6 0 0 4\nevent 0 6 0 0 4\n"),
     Act::Wrote(1, b"taken 2\nknown 2\n"),

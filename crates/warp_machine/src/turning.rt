@@ -27,6 +27,7 @@ impl<T: Timeline> Machine<T> {
         if self.is_over {
             return false;
         }
+        self.has_more = false;
         self.hear_all();
         self.note_watched();
         self.stopwatch.begin(self.clients.counts().lines, now);
@@ -40,7 +41,7 @@ impl<T: Timeline> Machine<T> {
         self.look_at_changes();
         let replies = self.clients.counts().replies;
         self.stopwatch.end(replies, now);
-        self.has_more = match worked {
+        self.has_more |= match worked {
             Worked::Idle => false,
             Worked::More => true,
             Worked::Held | Worked::NoMemory => replies != before,
@@ -65,6 +66,10 @@ impl<T: Timeline> Machine<T> {
 
     /// Asks a client what it says, and does it.
     pub(crate) fn say(&mut self, who: ClientId) {
+        if self.is_failing && self.is_peer(who) {
+            // Its records are not refused: they wait.
+            return;
+        }
         let wanted = self.wants(who);
         let was_fed = self.feed(who);
         let more = self.ask(who);
