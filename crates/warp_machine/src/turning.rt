@@ -23,10 +23,11 @@ impl<T: Timeline> Machine<T> {
     /// Hears lines of clients, has the room work for a while, and hands on what may be told. Whether there is more to do
     /// at once.
     pub fn turn<P: LastDone<T>>(&mut self, now: u64) -> bool {
-        self.now = now;
         if self.is_over {
             return false;
         }
+        self.time_answers();
+        self.now = now;
         self.has_more = false;
         self.hear_all();
         self.note_watched();
@@ -35,12 +36,12 @@ impl<T: Timeline> Machine<T> {
         let worked = self.work::<P>();
         self.clients.hand();
         self.note_watched();
-        self.tell_watchers();
         self.hand_steps();
+        self.tell_watchers();
         self.go_on_with_peers();
         self.look_at_changes();
         let replies = self.clients.counts().replies;
-        self.stopwatch.end(replies, now);
+        self.is_untimed = true;
         self.has_more |= match worked {
             Worked::Idle => false,
             Worked::More => true,
@@ -48,6 +49,14 @@ impl<T: Timeline> Machine<T> {
         };
         self.look_at_end();
         self.is_busy()
+    }
+
+    /// The answers of the last turn count as told by the time of the last call.
+    pub(crate) fn time_answers(&mut self) {
+        if self.is_untimed {
+            self.is_untimed = false;
+            self.stopwatch.end(self.clients.counts().replies, self.now);
+        }
     }
 
     /// Whether there is more to do at once.
