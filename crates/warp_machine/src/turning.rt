@@ -16,6 +16,9 @@ const MOST_STEPS: u64 = 4_096;
 /// So many times the room makes steps and answers lines in a turn at most.
 const MOST_ROUNDS: u32 = 4;
 
+/// So many turns, in which more comes at once, may end before who watches is told.
+const MOST_UNTOLD: u32 = 3;
+
 /// So many clients for which there is something to do are looked at at once.
 const MOST_CHANGES: u32 = 65_536;
 
@@ -37,7 +40,9 @@ impl<T: Timeline> Machine<T> {
         self.clients.hand();
         self.note_watched();
         self.hand_steps();
-        self.tell_watchers();
+        if self.is_to_tell(worked) {
+            self.tell_watchers();
+        }
         self.go_on_with_peers();
         self.look_at_changes();
         let replies = self.clients.counts().replies;
@@ -49,6 +54,18 @@ impl<T: Timeline> Machine<T> {
         };
         self.look_at_end();
         self.is_busy()
+    }
+
+    /// Whether who watches is told now: nothing more comes at once, or that was waited for a few times. So what comes in many
+    /// lines is told in few pages.
+    fn is_to_tell(&mut self, worked: Worked) -> bool {
+        let comes_more = self.conns.talking() > 0 || worked == Worked::More;
+        if comes_more && self.untold < MOST_UNTOLD {
+            self.untold += 1;
+            return false;
+        }
+        self.untold = 0;
+        true
     }
 
     /// The answers of the last turn count as told by the time of the last call.
