@@ -77,8 +77,8 @@ impl Seats {
     }
 
     /// Notes an event at the socket of this key.
-    pub(crate) fn note(&mut self, key: usize, event: &Event) {
-        let Some(Some(seat)) = self.seats.get_mut(key) else {
+    pub(crate) fn note(&mut self, key: u32, event: &Event) {
+        let Some(seat) = self.at(key) else {
             return;
         };
         seat.socket.note(event);

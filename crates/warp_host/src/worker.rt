@@ -109,7 +109,8 @@ impl<T: Timeline> Worker<T> {
             if self.is_over {
                 return Ok(());
             }
-            if let Err(error) = self.poll.poll(events, Some(self.timeout())) {
+            let timeout = self.timeout();
+            if let Err(error) = self.poll.poll(events, Some(timeout)) {
                 operator::tell_not_given(rt, "events", &error);
                 return Err(HostFault::System);
             }
@@ -153,7 +154,7 @@ impl<T: Timeline> Worker<T> {
             WAKER => {}
             INPUT => self.may_read_input = true,
             Token(key) if key >= FIRST_PEER => self.links.note(key - FIRST_PEER, event),
-            Token(key) => self.seats.note(key, event),
+            Token(key) => self.seats.note(u32::try_from(key).unwrap_or(u32::MAX), event),
         }
     }
 
@@ -395,7 +396,8 @@ impl<T: Timeline> Worker<T> {
     /// Has the machine do what is due, and looks at what no event tells of.
     fn tick<X: Eprint>(&mut self, rt: &X, durable: &Durable) {
         if self.machine.due() <= self.now {
-            self.machine.seen(self.seen(durable));
+            let seen = self.seen(durable);
+            self.machine.seen(seen);
             self.machine.tick(self.now);
         }
         if self.now.saturating_sub(self.looked) < SECOND {
