@@ -250,10 +250,7 @@ impl Peer {
         if !(self.contact.is_number(number) && self.contact.is_open()) {
             return;
         }
-        // A peer that ends no line is silent.
-        if bytes.contains(&b'\n') {
-            self.contact.note_bytes(now);
-        }
+        self.contact.note_bytes(has_line(bytes), now);
         self.keep(bytes);
         self.hear_kept();
         self.settle(now);
@@ -305,7 +302,12 @@ impl Peer {
         heard
     }
 
-    /// How many bytes the line at the front of these has, with its line feed, if it is whole and to be heard now.
+    /// Whether a line ends among these bytes.
+fn has_line(bytes: &[u8]) -> bool {
+    bytes.contains(&b'\n')
+}
+
+/// How many bytes the line at the front of these has, with its line feed, if it is whole and to be heard now.
     fn next_line(&self, bytes: &[u8]) -> Option<usize>
         ensures { IfSome result (λ count. (count ≡ first_end bytes.now + 1) × (first_end bytes.now < length bytes.now)) }
     {
