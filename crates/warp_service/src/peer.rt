@@ -302,12 +302,7 @@ impl Peer {
         heard
     }
 
-    /// Whether a line ends among these bytes.
-fn has_line(bytes: &[u8]) -> bool {
-    bytes.contains(&b'\n')
-}
-
-/// How many bytes the line at the front of these has, with its line feed, if it is whole and to be heard now.
+    /// How many bytes the line at the front of these has, with its line feed, if it is whole and to be heard now.
     fn next_line(&self, bytes: &[u8]) -> Option<usize>
         ensures { IfSome result (λ count. (count ≡ first_end bytes.now + 1) × (first_end bytes.now < length bytes.now)) }
     {
@@ -493,6 +488,11 @@ fn drop_front(bytes: &mut Vec<u8>, count: usize)
 {
     let count = count.min(bytes.len());
     let _ = bytes.drain(..count);
+}
+
+/// Whether a line ends among these bytes.
+fn has_line(bytes: &[u8]) -> bool {
+    bytes.contains(&b'\n')
 }
 
 /// How many bytes the line at the front of these has, with its line feed; none where it has none.
