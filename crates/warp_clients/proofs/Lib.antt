@@ -3,3 +3,4 @@ mod Entries
 mod One
 mod ToldTales
 mod Moving
+mod Stepping

@@ -140,6 +140,14 @@ impl<T: Timeline> Clients<T> {
     pub fn end(&mut self, who: ClientId)
         ensures { SomeRun (facts_of T.settled T.refused T.floor T.SLACK) self.old self.new }
     {
+        self.end_wire(who);
+        self.note(who);
+    }
+
+    /// No more bytes come of a client.
+    fn end_wire(&mut self, who: ClientId)
+        ensures { SomeRun (facts_of T.settled T.refused T.floor T.SLACK) self.old self.new }
+    {
         self.crowd.end(who);
     }
 
@@ -213,6 +221,14 @@ impl<T: Timeline> Clients<T> {
         self.crowd.lose(who);
     }
 
+    /// A client's connection is lost, and is to be closed.
+    fn give_up(&mut self, who: ClientId)
+        ensures { SomeRun (facts_of T.settled T.refused T.floor T.SLACK) self.old self.new }
+    {
+        self.lose(who);
+        self.note(who);
+    }
+
     /// What a client said last goes to the room if it is a line for it; else it is answered, where all before it is.
     fn hear_line(&mut self, who: ClientId)
         ensures { SomeRun (facts_of T.settled T.refused T.floor T.SLACK) self.old self.new }
@@ -237,7 +253,7 @@ impl<T: Timeline> Clients<T> {
     {
         match self.room.hear(who, said) {
             Ok(()) => self.crowd.go_in(who, &said),
-            Err(_) => self.crowd.lose(who),
+            Err(_) => self.give_up(who),
         }
     }
 
@@ -260,8 +276,23 @@ impl<T: Timeline> Clients<T> {
         self.crowd.settle(who)
     }
 
-    /// A client's look is answered.
+    /// A client's look is answered, by what is released where all is executed, and else by what was shown before.
     fn look(&mut self, who: ClientId, look: Look)
+        ensures { SomeRun (facts_of T.settled T.refused T.floor T.SLACK) self.old self.new }
+    {
+        self.show();
+        self.answer_look(who, look);
+    }
+
+    /// Shows what is released, where all is executed and there is memory.
+    fn show(&mut self)
+        ensures { SomeRun (facts_of T.settled T.refused T.floor T.SLACK) self.old self.new }
+    {
+        let _is_shown = self.room.show();
+    }
+
+    /// A client's look is answered by what is shown.
+    fn answer_look(&mut self, who: ClientId, look: Look)
         ensures { SomeRun (facts_of T.settled T.refused T.floor T.SLACK) self.old self.new }
     {
         let reply = self.room.look(look);
@@ -273,7 +304,7 @@ impl<T: Timeline> Clients<T> {
         ensures { SomeRun (facts_of T.settled T.refused T.floor T.SLACK) self.old self.new }
     {
         if !self.wants_to_ask(who, question) {
-            self.lose(who);
+            self.give_up(who);
         }
     }
 
@@ -296,6 +327,7 @@ impl<T: Timeline> Clients<T> {
         ensures room { Works T.stands_for (facts_of T.settled T.refused T.floor T.SLACK) most_lines most_steps
             self.old.room result self.new.room }
         ensures crowd { self.new.crowd ≡ self.old.crowd }
+        ensures run { SomeRun (facts_of T.settled T.refused T.floor T.SLACK) self.old self.new }
     {
         self.room.work(self.alloc, most_lines, most_steps)
     }
@@ -425,9 +457,10 @@ impl<T: Timeline> Clients<T> {
     }
 
     /// The next client for which there is something to do: bytes to be written, lines that it may say again, or that it is
-    /// over.
+    /// over. It is there.
     pub fn changed(&mut self) -> Option<ClientId>
-        ensures { SomeRun (facts_of T.settled T.refused T.floor T.SLACK) self.old self.new }
+        ensures run { SomeRun (facts_of T.settled T.refused T.floor T.SLACK) self.old self.new }
+        ensures here { IfSome result (λ who. IsThere who (λ c. Unit {0}) self.new.crowd.clients) }
     {
         self.crowd.changed()
     }

@@ -88,15 +88,13 @@ impl Crowd {
         self.count < self.facts.most_clients
     }
 
-    /// Takes the room that one more may want.
+    /// Takes the room that one more may want: for itself, and for all to be listed behind those that are listed now, some of
+    /// which may have left.
     pub(crate) fn reserve(&mut self) -> Result<(), AllocError>
         ensures { self.new ≡ self.old }
     {
         self.places.reserve()?;
-        let listed = self.changed.len();
-        let most = self.places.len();
-        self.changed
-            .reserve(most.saturating_sub(listed).saturating_add(1))
+        self.changed.reserve(self.places.len().saturating_add(1))
     }
 
     /// Of so long a log may be told.
@@ -156,7 +154,7 @@ impl Crowd {
     pub(crate) fn note(&mut self, who: ClientId)
         ensures { self.new ≡ self.old }
     {
-        if self.places.list(who, true) {
+        if self.places.list(who) {
             // There is room: it was taken with the place.
             let _ = self.changed.push_back(who);
         }

@@ -63,7 +63,7 @@ impl<T: Timeline> Clients<T> {
     }
 
     /// Shows what is released, where all is executed (`Room::show`).
-    pub fn show(&mut self) -> Result<(), Untold>
+    pub fn show_released(&mut self) -> Result<(), Untold>
         ensures some { SomeRun (facts_of T.settled T.refused T.floor T.SLACK) self.old self.new }
         ensures crowd { self.new.crowd ≡ self.old.crowd }
     {

@@ -289,16 +289,25 @@ impl Places {
         self.clients[at].close();
     }
 
-    /// The client stands among those for which there is something to do, or no longer. Whether that is new of one that is
-    /// there.
-    pub(crate) fn list(&mut self, who: ClientId, is_listed: bool) -> bool
+    /// The client stands among those for which there is something to do. Whether that is new of one that is there.
+    pub(crate) fn list(&mut self, who: ClientId) -> bool
         ensures { self.new ≡ self.old }
     {
         let at = who.key as usize;
         if at >= self.clients.len() || !self.clients[at].is_me(who) {
             return false;
         }
-        self.clients[at].list(is_listed)
+        self.clients[at].list(true)
+    }
+
+    /// The client stands no longer among those for which there is something to do: who it is, if it is there.
+    pub(crate) fn unlist(&mut self, who: ClientId) -> Option<ClientId>
+        ensures same { self.new ≡ self.old }
+        ensures here { IfSome result (λ one. IsThere one (λ c. Unit {0}) self.new) }
+    {
+        let at = self.find(who)?;
+        self.clients[at].list(false);
+        Some(who)
     }
 
     /// Puts a client into the place that is free, or the next.

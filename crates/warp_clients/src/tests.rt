@@ -229,6 +229,28 @@ fn answers_in_their_order(rt: HostRuntime) -> Result<(), Fail> {
     play(&rt, None, 2, LINES)
 }
 
+/// What a look sees: what is released where all is executed; and what was shown before, once that was taken back.
+const LOOKS: &[Act] = &[
+    Act::Says(
+        0,
+        b"announce 0 10 0 1 0\nannounce 1 10 0 0 0\nevent 0 5 0 0 3\n",
+    ),
+    Act::Works(3),
+    Act::Wrote(0, b"taken 1\ntaken 2\ntaken 3\n"),
+    Act::Says(0, b"board\nrow 0\nrow 1\n"),
+    Act::Wrote(0, b"board 1 0\nrow 5 0 0 3\nnone\n"),
+    Act::Says(0, b"event 0 1 0 0 1\n"),
+    Act::Works(4),
+    Act::Wrote(0, b"taken 4\n"),
+    Act::Says(0, b"board\nrow 0\n"),
+    Act::Wrote(0, b"board 1 1\nrow 5 0 0 3\n"),
+];
+
+#[test]
+fn looks_at_what_is_released(rt: HostRuntime) -> Result<(), Fail> {
+    play(&rt, None, 1, LOOKS)
+}
+
 /// A client with a token: what comes before it is refused, but for `program`; its rights hold for what comes behind it; a
 /// third wrong token ends a client; and records are refused while the journal can't be written.
 const TOKENS: &[Act] = &[

@@ -80,21 +80,39 @@ impl Crowd {
         is_pushed
     }
 
-    /// The next client for which there is something to do, if one is listed; it is listed no more.
-    fn unlisted(&mut self) -> Option<ClientId>
-        ensures { self.new ≡ self.old }
+    /// How many are listed, with those that left.
+    fn listed(&self) -> usize {
+        self.changed.len()
+    }
+
+    /// The first that is listed is listed no more: who it is, if it is there.
+    fn unlist(&mut self) -> Option<ClientId>
+        ensures same { self.new ≡ self.old }
+        ensures here { IfSome result (λ who. IsThere who (λ c. Unit {0}) self.new.clients) }
     {
         let who = self.changed.pop_front()?;
-        self.places.list(who, false);
-        Some(who)
+        self.places.unlist(who)
+    }
+
+    /// The next client for which there is something to do, if one is there; it is listed no more.
+    fn next_listed(&mut self) -> Option<ClientId>
+        ensures same { self.new ≡ self.old }
+        ensures here { IfSome result (λ who. IsThere who (λ c. Unit {0}) self.new.clients) }
+    {
+        for _ in 0..self.listed() {
+            if let Some(who) = self.unlist() {
+                return Some(who);
+            }
+        }
+        None
     }
 
     /// The next client for which there is something to do: its output is made ready.
     pub(crate) fn changed(&mut self) -> Option<ClientId>
-        ensures some { IfSome result (λ who. Moves who self.old self.new) }
+        ensures some { IfSome result (λ who. Moves who self.old self.new × IsThere who (λ c. Unit {0}) self.new.clients) }
         ensures none { IfNone result (self.new ≡ self.old) }
     {
-        let who = self.unlisted()?;
+        let who = self.next_listed()?;
         self.ready(who);
         Some(who)
     }

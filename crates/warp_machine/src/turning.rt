@@ -293,7 +293,7 @@ impl<T: Timeline> Machine<T> {
         if self.shown == Some(len) {
             return true;
         }
-        if self.clients.show().is_err() {
+        if self.clients.show_released().is_err() {
             return false;
         }
         self.shown = Some(len);

@@ -1,6 +1,6 @@
 //! Clients by their seats, each with the lines of its own that wait, and whose turn it is.
 ghost use Rattle.std.specs.Prelude.{◌≡◌, ◌↔◌, ◌<◌, ◌≤◌, ◌++◌, ◌∷◌, [], ℕ, false, true, IfErr, IfNone, IfOk, IfSome};
-ghost use Rattle.std.specs.Prelude.{Err, IsOk, IsTrue, List, OnErr, OnOk, Some, length, slice_get};
+ghost use Rattle.std.specs.Prelude.{Err, IsOk, IsTrue, List, OnErr, OnOk, Some, length, slice_get, ◌^◌};
 ghost use Rattle.warp_record.specs.declared.line.Line.{Line};
 ghost use Rattle.warp_room.specs.Queues.{Comes, Hears, IsFirst, IsSeat, LeavesSeat, SeatState, TakesLine, has_turn};
 ghost use Rattle.warp_room.specs.Queues.{lines_of, may_answer, may_turn};
@@ -15,9 +15,6 @@ use warp_watch::ClientId;
 
 /// The most seats: each has a key of 32 bits.
 const MOST_SEATS: usize = 4_294_967_295;
-
-/// Of so many seats in a row it is known together how many lines wait.
-const BLOCK: usize = 64;
 
 /// Why a line is not heard.
 #[derive(Clone, Copy, Debug, PartialEq, Eq)]
@@ -185,21 +182,23 @@ pub(crate) struct Chosen {
 #[derive(Drop)]
 pub(crate) struct Queues {
     seats: Vec<Seat>,
-    /// How many lines wait in each block of seats. Contracts do not see it: where none does, no seat of the block has a turn.
-    blocks: Vec<u32>,
     next: usize,
     came: u64,
+    /// Lines wait only of seats from `low` on, before `high`, so that no others are looked at.
+    low: usize,
+    high: usize,
 }
 
 impl Model for Queues {
     ghost use Rattle.std.specs.Prelude.{◌≤◌, ◌<◌, ◌^◌, length};
-    ghost use Rattle.warp_room.specs.Queues.{QueuesState};
+    ghost use Rattle.warp_room.specs.Queues.{QueuesState, WaitWithin};
 
     ghost Value = { QueuesState };
 
     ghost view = { λ q. record { seats = q.seats.items; next = q.next; came = q.came } };
 
-    ghost invariant = { λ q. (q.next ≤ length q.seats.items) × (length q.seats.items < 2 ^ 32) };
+    ghost invariant = { λ q. (q.next ≤ length q.seats.items) × (length q.seats.items < 2 ^ 32)
+        × (q.high ≤ length q.seats.items) × WaitWithin q.low q.high q.seats.items };
 }
 
 impl Queues {
@@ -209,9 +208,10 @@ impl Queues {
     {
         Queues {
             seats: Vec::new(alloc),
-            blocks: Vec::new(alloc),
             next: 0,
             came: 0,
+            low: 0,
+            high: 0,
         }
     }
 
@@ -233,9 +233,6 @@ impl Queues {
                 let key = self.seats.len();
                 if key >= MOST_SEATS {
                     return Err(OutOfMemory);
-                }
-                if self.blocks.len() <= key / BLOCK {
-                    self.blocks.push(0)?;
                 }
                 self.seats.push(Seat::new(alloc, round))?;
                 key
@@ -264,11 +261,7 @@ impl Queues {
         requires { (seat : SeatState) × IsSeat self.old.seats who seat }
         ensures { LeavesSeat who self.old self.new }
     {
-        let key = who.key as usize;
-        let count = self.seats[key].waiting() as u32;
-        let lines = self.blocks[key / BLOCK];
-        self.blocks[key / BLOCK] = lines.saturating_sub(count);
-        self.seats[key].leave();
+        self.seats[who.key as usize].leave();
     }
 
     /// How many lines of a client wait: 0 of one that is not there.
@@ -301,10 +294,11 @@ impl Queues {
             return Err(Unheard::Full);
         }
         let key = who.key as usize;
-        self.seats[key].hear(line)?;
-        let lines = self.blocks[key / BLOCK];
-        self.blocks[key / BLOCK] = lines.saturating_add(1);
-        Ok(())
+        let low = low_with(self.low, self.high, key);
+        let high = high_with(self.low, self.high, key);
+        self.low = low;
+        self.high = high;
+        self.seats[key].hear(line)
     }
 
     /// Whose turn it is, and the oldest line of that client; `None` where no client has a line that may be answered.
@@ -332,10 +326,21 @@ impl Queues {
             × (key < length self.now.seats)) }
         ensures none { IfNone result ((key : ℕ) → has_turn all self.now.seats key ≡ false) }
     {
-        match first_between(&self.seats, &self.blocks, all, self.next, self.seats.len()) {
+        match self.first_within(all, self.next, self.seats.len()) {
             Some(key) => Some(key),
-            None => first_between(&self.seats, &self.blocks, all, 0, self.next),
+            None => self.first_within(all, 0, self.next),
         }
+    }
+
+    /// The first seat from `from` on, before `until`, whose client has a line that may be answered.
+    fn first_within(&self, all: bool, from: usize, until: usize) -> Option<usize>
+        requires { until ≤ length self.now.seats }
+        ensures found { IfSome result (λ key. (from ≤ key) × (key < until) × IsTrue (has_turn all self.now.seats key)
+            × ((other : ℕ) → from ≤ other → other < key → has_turn all self.now.seats other ≡ false)) }
+        ensures none { IfNone result ((other : ℕ) → from ≤ other → other < until →
+            has_turn all self.now.seats other ≡ false) }
+    {
+        first_between(&self.seats, all, from.max(self.low), until.min(self.high))
     }
 
     /// The first line of this client is answered: the next turn is looked for behind its seat.
@@ -345,11 +350,44 @@ impl Queues {
             seat.lines ≡ said ∷ rest → TakesLine who seat rest self.old self.new }
     {
         let key = who.key as usize;
-        let lines = self.blocks[key / BLOCK];
-        self.blocks[key / BLOCK] = lines.saturating_sub(1);
         self.seats[key].drop_first();
         self.next = key + 1;
+        self.low = first_waiting(&self.seats, self.low, self.high);
     }
+}
+
+/// Where lines wait from, once one of this key does too.
+fn low_with(low: usize, high: usize, key: usize) -> usize
+    ensures { (result ≤ key) × (low < high → result ≤ low) }
+{
+    if low >= high { key } else { low.min(key) }
+}
+
+/// Up to where lines wait, once one of this key does too.
+fn high_with(low: usize, high: usize, key: usize) -> usize
+    requires { key < 2 ^ 32 }
+    ensures within { (key < result) × (low < high → high ≤ result) }
+    ensures most { (n : ℕ) → high ≤ n → key < n → result ≤ n }
+{
+    if low >= high {
+        key + 1
+    } else {
+        high.max(key + 1)
+    }
+}
+
+/// The first of these seats, from `low` on, of which a line waits; `high` where there is none before that.
+fn first_waiting(seats: &[Seat], low: usize, high: usize) -> usize
+    requires { high ≤ length seats.now }
+    ensures { (key : ℕ) (seat : SeatState) → slice_get seats.now key ≡ Some seat → low ≤ key → key < result →
+        key < high → seat.lines ≡ [] }
+{
+    for key in low..high {
+        if seats[key].waiting() > 0 {
+            return key;
+        }
+    }
+    high
 }
 
 /// A seat that no client has.
@@ -365,29 +403,17 @@ fn free_seat(seats: &[Seat]) -> Option<usize>
     None
 }
 
-/// The first seat from `from` on, before `until`, whose client has a line that may be answered. Blocks of seats in which no
-/// line waits are passed over.
-fn first_between(
-    seats: &[Seat],
-    blocks: &[u32],
-    all: bool,
-    from: usize,
-    until: usize,
-) -> Option<usize>
+/// The first seat from `from` on, before `until`, whose client has a line that may be answered.
+fn first_between(seats: &[Seat], all: bool, from: usize, until: usize) -> Option<usize>
     requires { until ≤ length seats.now }
     ensures found { IfSome result (λ key. (from ≤ key) × (key < until) × IsTrue (has_turn all seats.now key)
         × ((other : ℕ) → from ≤ other → other < key → has_turn all seats.now other ≡ false)) }
     ensures none { IfNone result ((other : ℕ) → from ≤ other → other < until →
         has_turn all seats.now other ≡ false) }
 {
-    let mut key = from;
-    while key < until {
-        if blocks[key / BLOCK] == 0 {
-            key = (key / BLOCK + 1) * BLOCK;
-        } else if seats[key].may_turn(all) {
+    for key in from..until {
+        if seats[key].may_turn(all) {
             return Some(key);
-        } else {
-            key += 1;
         }
     }
     None

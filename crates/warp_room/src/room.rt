@@ -59,8 +59,6 @@ pub struct Room<T: Timeline> {
     pub(crate) shown: Shown,
     most_lines: u32,
     most_answers: u32,
-    /// How many records the log had when what is released was shown last.
-    shown_len: u32,
 }
 
 impl<T: Timeline> Model for Room<T> {
@@ -107,7 +105,6 @@ impl<T: Timeline> Room<T> {
             shown: Shown::new(alloc),
             most_lines,
             most_answers,
-            shown_len: 0,
         }
     }
 
@@ -157,18 +154,10 @@ impl<T: Timeline> Room<T> {
         if !self.replica.is_settled() {
             return Err(Untold::Unsettled);
         }
-        match self.shown.update(&self.replica) {
-            Ok(()) => {
-                self.shown_len = self.replica.len();
-                Ok(())
-            }
-            Err(_) => Err(Untold::NoMemory),
-        }
-    }
-
-    /// Whether all that is released is known to be shown, or what is shown is frozen.
-    pub(crate) fn is_all_shown(&self) -> bool {
-        self.shown.is_frozen() || self.shown_len == self.replica.len()
+        let Ok(()) = self.shown.update(&self.replica) else {
+            return Err(Untold::NoMemory);
+        };
+        Ok(())
     }
 
     /// A client has come. `Err` changes nothing.
@@ -258,7 +247,6 @@ impl<T: Timeline> Room<T> {
         let Ok(()) = self.shown.update(&self.replica) else {
             return Err(Untold::NoMemory);
         };
-        self.shown_len = self.replica.len();
         match tell(alloc, &self.replica, &self.shown, question) {
             Ok(told) => Ok(told),
             Err(_) => Err(Untold::NoMemory),

@@ -45,13 +45,19 @@ impl<T: Timeline> Room<T> {
 
     /// Whether the next line is a record behind the horizon, and not all is shown that is released.
     fn is_to_show(&self) -> bool {
-        if self.is_all_shown() {
-            return false;
-        }
         match self.queues.first(self.is_settled()) {
-            Some(turn) => self.comes_behind(&turn.line),
+            Some(turn) => self.comes_behind(&turn.line) && !self.is_all_shown(),
             None => false,
         }
+    }
+
+    /// Whether all is known to be shown that is released, or what is shown is frozen: of a room that shows what is released
+    /// whenever all is executed.
+    fn is_all_shown(&self) -> bool {
+        if self.shown.is_frozen() {
+            return true;
+        }
+        self.is_settled() && self.replica.released().len() == self.shown.rows().len()
     }
 
     /// Whether the line has a record with a tag before the horizon.

@@ -74,5 +74,6 @@ abbrev pub TellsNews : ℕ → Option (PeerNews × ℕ) → NewsOfPeer → NewsO
 TellsNews now None n n' = (n' ≡ n) × ((waits_some n ≡ false) ⊎ (now < news_moment n))
 TellsNews now (Some (news, left)) n n' =
     (behind_last n.told_at ≤ now)
-    × (((n.waits ≡ Some news) × (n.left_out ≡ left) × (n' ≡ record n { waits = None; left_out = 0; told_at = Some now }))
-    ⊎ ((left ≡ 0) × (n' ≡ record n { refused = n'.refused; told_at = Some now })))
+    × (n' ≡ record n { refused = n'.refused; waits = n'.waits; left_out = n'.left_out; told_at = Some now })
+    × (((n.waits ≡ Some news) × (n.left_out ≡ left) × (n'.waits ≡ None) × (n'.left_out ≡ 0))
+    ⊎ ((left ≡ 0) × (n'.waits ≡ n.waits) × (n'.left_out ≡ n.left_out)))

@@ -1,7 +1,7 @@
 //! What an operator is told of a peer: a line each second at most. Of what comes faster the newest is told when the second
 //! is over, with how many were left out; but each record of it that was refused is told, as it comes once for each reason.
-ghost use Rattle.std.specs.Prelude.{◌≡◌, ◌≢◌, Option, Some, None, true, false};
-ghost use Rattle.warp_service.specs.News.{TellsNews, WithEvent, WithReason, is_reason, is_start, news_moment, noted, with_loss};
+ghost use Rattle.std.specs.Prelude.{◌≡◌, ◌≢◌, ◌==◌, Option, Some, None, true, false};
+ghost use Rattle.warp_service.specs.News.{TellsNews, WithEvent, WithReason, is_reason, is_refusal, is_start, news_moment, noted, with_loss};
 
 use crate::contact::{NEVER, later};
 use warp_hub::PeerEvent;
@@ -23,10 +23,10 @@ pub enum PeerNews {
 /// So many refused records wait to be told at most: there are no more reasons.
 const MOST_REFUSED: usize = 16;
 
-/// Records of a peer that were refused, in the order in which they are told.
+/// Records of a peer that were refused, in the order in which they are told: the first so many of these.
 #[derive(Clone, Copy, Debug)]
 pub struct RefusedRecords {
-    events: [Option<PeerEvent>; MOST_REFUSED],
+    events: [PeerEvent; MOST_REFUSED],
     count: usize,
 }
 
@@ -34,26 +34,26 @@ impl RefusedRecords {
     /// None.
     fn new() -> RefusedRecords {
         RefusedRecords {
-            events: [None; MOST_REFUSED],
+            events: [PeerEvent::Untold; MOST_REFUSED],
             count: 0,
         }
     }
 
-    /// This one waits behind the others; whether there was room.
-    fn push(&mut self, event: PeerEvent) -> bool {
-        if self.count >= MOST_REFUSED {
-            return false;
+    /// Whether one more may wait.
+    fn has_room(&self) -> bool {
+        self.count < MOST_REFUSED
+    }
+
+    /// This one waits behind the others, where there is room.
+    fn push(&mut self, event: PeerEvent) {
+        if self.count < MOST_REFUSED {
+            self.events[self.count] = event;
+            self.count += 1;
         }
-        self.events[self.count] = Some(event);
-        self.count += 1;
-        true
     }
 
     /// Takes the first off.
-    fn pop(&mut self) -> Option<PeerEvent> {
-        if self.count == 0 {
-            return None;
-        }
+    fn pop(&mut self) -> PeerEvent {
         let first = self.events[0];
         for at in 1..MOST_REFUSED {
             self.events[at - 1] = self.events[at];
@@ -63,7 +63,9 @@ impl RefusedRecords {
     }
 
     /// Whether there is none.
-    fn is_empty(&self) -> bool {
+    fn is_empty(&self) -> bool
+        ensures { result ≡ (self.now.count == 0) }
+    {
         self.count == 0
     }
 }
@@ -121,7 +123,8 @@ impl NewsOfPeer {
             self.note_reason(event);
             return;
         }
-        if matches!(event, PeerEvent::Refused { .. }) && self.refused.push(event) {
+        if is_refusal(event) && self.refused.has_room() {
+            self.refused.push(event);
             return;
         }
         self.note(PeerNews::Event(event));
@@ -186,7 +189,8 @@ impl NewsOfPeer {
         if self.next_moment() > now {
             return None;
         }
-        if let Some(refused) = self.refused.pop() {
+        if !self.refused.is_empty() {
+            let refused = self.refused.pop();
             self.told_at = Some(now);
             return Some((PeerNews::Event(refused), 0));
         }
@@ -210,6 +214,21 @@ fn is_reason(event: PeerEvent) -> bool
         | PeerEvent::Untold
         | PeerEvent::Strange
         | PeerEvent::NoMemory => true,
+    }
+}
+
+/// Whether it says that a record was refused.
+fn is_refusal(event: PeerEvent) -> bool
+    ensures { result ≡ is_refusal event }
+{
+    match event {
+        PeerEvent::Refused { .. } => true,
+        PeerEvent::Found { .. }
+        | PeerEvent::OtherProgram
+        | PeerEvent::NotAllowed
+        | PeerEvent::Untold
+        | PeerEvent::Strange
+        | PeerEvent::NoMemory => false,
     }
 }
 

@@ -250,10 +250,7 @@ impl Peer {
         if !(self.contact.is_number(number) && self.contact.is_open()) {
             return;
         }
-        // A peer that ends no line is silent.
-        if bytes.contains(&b'\n') {
-            self.contact.note_bytes(now);
-        }
+        self.contact.note_bytes(has_line(bytes), now);
         self.keep(bytes);
         self.hear_kept();
         self.settle(now);
@@ -491,6 +488,11 @@ fn drop_front(bytes: &mut Vec<u8>, count: usize)
 {
     let count = count.min(bytes.len());
     let _ = bytes.drain(..count);
+}
+
+/// Whether a line ends among these bytes.
+fn has_line(bytes: &[u8]) -> bool {
+    bytes.contains(&b'\n')
 }
 
 /// How many bytes the line at the front of these has, with its line feed; none where it has none.

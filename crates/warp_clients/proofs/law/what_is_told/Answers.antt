@@ -1,5 +1,5 @@
 use Rattle.warp_replica.specs.Answered.{facts_of}
-use Rattle.std.proofs.Common.{refl}
+use Rattle.std.proofs.Common.{[], refl}
 use Rattle.warp_room.proofs.Runs.{runs_history}
 use Rattle.warp_clients.specs.Tale.{room_steps, tale_of}
 use Rattle.warp_clients.proofs.ToldTales.{all_allowed, begins, room_runs, told_all}
