@@ -274,6 +274,7 @@ fn make_worker<X: Offers + RandomSource, T: Timeline>(
         buffer,
         now,
         looked: now,
+        may_read_input: false,
         has_more: false,
         is_over: false,
         is_slow_write_told: false,

@@ -26,11 +26,11 @@ pub(crate) struct Socket {
 }
 
 impl Socket {
-    /// A new connection.
+    /// A new connection. There may be something at once.
     pub(crate) fn new(stream: TcpStream) -> Socket {
         Socket {
             stream,
-            may_read: false,
+            may_read: true,
             may_write: true,
             is_closed: false,
             is_at_end: false,

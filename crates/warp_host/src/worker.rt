@@ -82,6 +82,8 @@ pub(crate) struct Worker<T: Timeline> {
     pub(crate) now: u64,
     /// When it was last looked at what no event tells of.
     pub(crate) looked: u64,
+    /// There may be something to read of standard input.
+    pub(crate) may_read_input: bool,
     /// The machine has more to do at once.
     pub(crate) has_more: bool,
     pub(crate) is_over: bool,
@@ -149,7 +151,7 @@ impl<T: Timeline> Worker<T> {
                 }
             }
             WAKER => {}
-            INPUT => self.look_at_input(),
+            INPUT => self.may_read_input = true,
             Token(key) if key >= FIRST_PEER => self.links.note(key - FIRST_PEER, event),
             Token(key) => self.seats.note(key, event),
         }
@@ -160,6 +162,7 @@ impl<T: Timeline> Worker<T> {
         self.accept_some();
         self.serve_some();
         self.look_at_links();
+        self.look_at_input();
         // What other threads make from now on wakes the worker.
         shared.bells.worker_sleeps();
         self.look_at_journal(shared.durable);
@@ -216,6 +219,7 @@ impl<T: Timeline> Worker<T> {
             return false;
         }
         self.seats.put(who, stream);
+        self.seats.enqueue(who);
         true
     }
 
@@ -399,6 +403,7 @@ impl<T: Timeline> Worker<T> {
         }
         self.looked = self.now;
         if self.input.is_always_ready() {
+            self.may_read_input = true;
             self.look_at_input();
         }
         if let Some(entrance) = &mut self.entrance {
@@ -431,11 +436,12 @@ impl<T: Timeline> Worker<T> {
         }
     }
 
-    /// Reads standard input. Its end is told.
+    /// Reads standard input, if there may be something. Its end is told, behind what came before it.
     fn look_at_input(&mut self) {
-        if self.input.look(&self.poll) {
+        if self.may_read_input && self.input.look(&self.poll) {
             self.machine.input_ended(self.now);
         }
+        self.may_read_input = false;
     }
 
     /// Does what the machine wants.

@@ -130,6 +130,7 @@ impl<T: Timeline> Machine<T> {
     /// The first so many of these were written.
     pub fn sent(&mut self, who: ClientId, count: usize, now: u64) {
         self.now = now;
+        self.time_answers();
         let wanted = self.wants(who);
         let was_behind = self.clients.is_behind(who);
         let was_full = self.clients.unread(who) >= MOST_UNREAD;

@@ -48,6 +48,7 @@ impl<T: Timeline> Machine<T> {
         if self.timers.look(now) {
             self.look_after_clients();
             self.tell_operator();
+            self.time_answers();
             self.note_seen();
         }
         self.look_at_end();

@@ -96,6 +96,10 @@ pub struct Machine<T: Timeline> {
     pub(crate) is_failing: bool,
     /// How many records the log had when what is released was shown last.
     pub(crate) shown: Option<u32>,
+    /// How long the answers of the last turn took is not noted yet: the next call says by which time they were told.
+    pub(crate) is_untimed: bool,
+    /// How many turns ended since who watches was told.
+    pub(crate) untold: u32,
     /// There is more to do at once.
     pub(crate) has_more: bool,
     /// That nobody is let in any more is to be said.
@@ -149,6 +153,8 @@ impl<T: Timeline> Machine<T> {
             limit: 0,
             is_failing: false,
             shown: None,
+            is_untimed: false,
+            untold: 0,
             has_more: true,
             shuts: false,
             ending: None,

@@ -16,6 +16,9 @@ const MOST_STEPS: u64 = 4_096;
 /// So many times the room makes steps and answers lines in a turn at most.
 const MOST_ROUNDS: u32 = 4;
 
+/// So many turns, in which more comes at once, may end before who watches is told.
+const MOST_UNTOLD: u32 = 3;
+
 /// So many clients for which there is something to do are looked at at once.
 const MOST_CHANGES: u32 = 65_536;
 
@@ -23,10 +26,11 @@ impl<T: Timeline> Machine<T> {
     /// Hears lines of clients, has the room work for a while, and hands on what may be told. Whether there is more to do
     /// at once.
     pub fn turn<P: LastDone<T>>(&mut self, now: u64) -> bool {
-        self.now = now;
         if self.is_over {
             return false;
         }
+        self.time_answers();
+        self.now = now;
         self.has_more = false;
         self.hear_all();
         self.note_watched();
@@ -35,12 +39,14 @@ impl<T: Timeline> Machine<T> {
         let worked = self.work::<P>();
         self.clients.hand();
         self.note_watched();
-        self.tell_watchers();
         self.hand_steps();
+        if self.is_to_tell(worked) {
+            self.tell_watchers();
+        }
         self.go_on_with_peers();
         self.look_at_changes();
         let replies = self.clients.counts().replies;
-        self.stopwatch.end(replies, now);
+        self.is_untimed = true;
         self.has_more |= match worked {
             Worked::Idle => false,
             Worked::More => true,
@@ -48,6 +54,26 @@ impl<T: Timeline> Machine<T> {
         };
         self.look_at_end();
         self.is_busy()
+    }
+
+    /// Whether who watches is told now: nothing more comes at once, or that was waited for a few times. So what comes in many
+    /// lines is told in few pages.
+    fn is_to_tell(&mut self, worked: Worked) -> bool {
+        let comes_more = self.conns.talking() > 0 || worked == Worked::More;
+        if comes_more && self.untold < MOST_UNTOLD {
+            self.untold += 1;
+            return false;
+        }
+        self.untold = 0;
+        true
+    }
+
+    /// The answers of the last turn count as told by the time of the last call.
+    pub(crate) fn time_answers(&mut self) {
+        if self.is_untimed {
+            self.is_untimed = false;
+            self.stopwatch.end(self.clients.counts().replies, self.now);
+        }
     }
 
     /// Whether there is more to do at once.

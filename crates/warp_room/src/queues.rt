@@ -16,6 +16,9 @@ use warp_watch::ClientId;
 /// The most seats: each has a key of 32 bits.
 const MOST_SEATS: usize = 4_294_967_295;
 
+/// Of so many seats in a row it is known together how many lines wait.
+const BLOCK: usize = 64;
+
 /// Why a line is not heard.
 #[derive(Clone, Copy, Debug, PartialEq, Eq)]
 pub enum Unheard {
@@ -182,6 +185,8 @@ pub(crate) struct Chosen {
 #[derive(Drop)]
 pub(crate) struct Queues {
     seats: Vec<Seat>,
+    /// How many lines wait in each block of seats. Contracts do not see it: where none does, no seat of the block has a turn.
+    blocks: Vec<u32>,
     next: usize,
     came: u64,
 }
@@ -204,6 +209,7 @@ impl Queues {
     {
         Queues {
             seats: Vec::new(alloc),
+            blocks: Vec::new(alloc),
             next: 0,
             came: 0,
         }
@@ -227,6 +233,9 @@ impl Queues {
                 let key = self.seats.len();
                 if key >= MOST_SEATS {
                     return Err(OutOfMemory);
+                }
+                if self.blocks.len() <= key / BLOCK {
+                    self.blocks.push(0)?;
                 }
                 self.seats.push(Seat::new(alloc, round))?;
                 key
@@ -255,7 +264,11 @@ impl Queues {
         requires { (seat : SeatState) × IsSeat self.old.seats who seat }
         ensures { LeavesSeat who self.old self.new }
     {
-        self.seats[who.key as usize].leave();
+        let key = who.key as usize;
+        let count = self.seats[key].waiting() as u32;
+        let lines = self.blocks[key / BLOCK];
+        self.blocks[key / BLOCK] = lines.saturating_sub(count);
+        self.seats[key].leave();
     }
 
     /// How many lines of a client wait: 0 of one that is not there.
@@ -287,7 +300,11 @@ impl Queues {
         if self.waiting(who) >= most as usize {
             return Err(Unheard::Full);
         }
-        self.seats[who.key as usize].hear(line)
+        let key = who.key as usize;
+        self.seats[key].hear(line)?;
+        let lines = self.blocks[key / BLOCK];
+        self.blocks[key / BLOCK] = lines.saturating_add(1);
+        Ok(())
     }
 
     /// Whose turn it is, and the oldest line of that client; `None` where no client has a line that may be answered.
@@ -315,9 +332,9 @@ impl Queues {
             × (key < length self.now.seats)) }
         ensures none { IfNone result ((key : ℕ) → has_turn all self.now.seats key ≡ false) }
     {
-        match first_between(&self.seats, all, self.next, self.seats.len()) {
+        match first_between(&self.seats, &self.blocks, all, self.next, self.seats.len()) {
             Some(key) => Some(key),
-            None => first_between(&self.seats, all, 0, self.next),
+            None => first_between(&self.seats, &self.blocks, all, 0, self.next),
         }
     }
 
@@ -328,6 +345,8 @@ impl Queues {
             seat.lines ≡ said ∷ rest → TakesLine who seat rest self.old self.new }
     {
         let key = who.key as usize;
+        let lines = self.blocks[key / BLOCK];
+        self.blocks[key / BLOCK] = lines.saturating_sub(1);
         self.seats[key].drop_first();
         self.next = key + 1;
     }
@@ -346,17 +365,29 @@ fn free_seat(seats: &[Seat]) -> Option<usize>
     None
 }
 
-/// The first seat from `from` on, before `until`, whose client has a line that may be answered.
-fn first_between(seats: &[Seat], all: bool, from: usize, until: usize) -> Option<usize>
+/// The first seat from `from` on, before `until`, whose client has a line that may be answered. Blocks of seats in which no
+/// line waits are passed over.
+fn first_between(
+    seats: &[Seat],
+    blocks: &[u32],
+    all: bool,
+    from: usize,
+    until: usize,
+) -> Option<usize>
     requires { until ≤ length seats.now }
     ensures found { IfSome result (λ key. (from ≤ key) × (key < until) × IsTrue (has_turn all seats.now key)
         × ((other : ℕ) → from ≤ other → other < key → has_turn all seats.now other ≡ false)) }
     ensures none { IfNone result ((other : ℕ) → from ≤ other → other < until →
         has_turn all seats.now other ≡ false) }
 {
-    for key in from..until {
-        if seats[key].may_turn(all) {
+    let mut key = from;
+    while key < until {
+        if blocks[key / BLOCK] == 0 {
+            key = (key / BLOCK + 1) * BLOCK;
+        } else if seats[key].may_turn(all) {
             return Some(key);
+        } else {
+            key += 1;
         }
     }
     None
