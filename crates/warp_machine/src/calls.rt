@@ -1,5 +1,7 @@
 //! What comes to the machine of its connections and of the journal, and what it wants.
 
+ghost use Rattle.std.specs.Prelude.{◌≤◌, length};
+
 use crate::action::{Action, Ending};
 use crate::conns::{MOST_REST, Want};
 use crate::machine::Machine;
@@ -59,7 +61,9 @@ impl<T: Timeline> Machine<T> {
     }
 
     /// A client hears the first of these bytes for which it has room: how many; all where its connection is lost.
-    fn hear(&mut self, who: ClientId, bytes: &[u8]) -> usize {
+    fn hear(&mut self, who: ClientId, bytes: &[u8]) -> usize
+        ensures { result ≤ length bytes.now }
+    {
         match self.clients.hear(who, bytes) {
             Ok(count) => count,
             Err(_) => bytes.len(),

@@ -12,29 +12,28 @@ use warp_service::Note;
 
 const SECOND: u64 = 1_000_000;
 
-/// For how long a connection may bring no whole request over HTTP, and for how long it may take nothing of an answer, in
-/// seconds.
-const MOST_SILENCE: u64 = 10;
+/// For how long a connection may bring no whole request over HTTP, and for how long it may take nothing of an answer.
+const MOST_SILENCE: u64 = 10 * SECOND;
 
-const MOST_STALL: u64 = 60;
+const MOST_STALL: u64 = 60 * SECOND;
 
-/// How long a client may be silent over WebSocket before it is pinged, and how long before it is closed, in seconds.
-const PING_AFTER: u64 = 30;
+/// How long a client may be silent over WebSocket before it is pinged, and how long before it is closed.
+const PING_AFTER: u64 = 30 * SECOND;
 
-const CLOSE_AFTER: u64 = 60;
+const CLOSE_AFTER: u64 = 60 * SECOND;
 
-/// How long a client that is told nothing more may take until it closes, in seconds.
-const LINGER: u64 = 2;
+/// How long a client that is told nothing more may take until it closes.
+const LINGER: u64 = 2 * SECOND;
 
-/// How long the last output of a client may wait, in seconds.
-const LAST_WORDS: u64 = 10;
+/// How long the last output of a client may wait.
+const LAST_WORDS: u64 = 10 * SECOND;
 
-/// For how long the host may go on when it ends, in seconds.
-const LONGEST_END: u64 = 10;
+/// For how long the host may go on when it ends.
+const LONGEST_END: u64 = 10 * SECOND;
 
-/// Whether so many seconds are over since then.
-fn is_past(now: u64, since: u64, seconds: u64) -> bool {
-    now.saturating_sub(since) >= seconds * SECOND
+/// Whether so many microseconds are over since then.
+fn is_past(now: u64, since: u64, span: u64) -> bool {
+    now.saturating_sub(since) >= span
 }
 
 impl<T: Timeline> Machine<T> {
@@ -65,7 +64,7 @@ impl<T: Timeline> Machine<T> {
             return 0;
         }
         let end = match self.ending {
-            Some(since) => since.saturating_add(LONGEST_END * SECOND),
+            Some(since) => since.saturating_add(LONGEST_END),
             None => u64::MAX,
         };
         self.timers.due(&[self.moment_of_peers(), end])

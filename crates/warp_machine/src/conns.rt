@@ -22,6 +22,18 @@ pub(crate) enum Want {
     Close,
 }
 
+impl Want {
+    /// That this is wanted of the connection of a client.
+    fn action(self, who: ClientId) -> Action {
+        match self {
+            Want::Write => Action::Write(who),
+            Want::Hear => Action::Hear(who),
+            Want::End => Action::End(who),
+            Want::Close => Action::Close(who),
+        }
+    }
+}
+
 /// What is wanted of a connection now.
 #[derive(Clone, Copy)]
 struct Wanted {
@@ -141,6 +153,28 @@ impl Conn {
         self.heard = now;
         self.pinged = now;
     }
+
+    /// Whether it is that of this client.
+    fn is_of(&self, who: ClientId) -> bool {
+        self.is_here && self.round == who.round
+    }
+
+    /// Nobody is here any more. Where it stands in lists it is passed over.
+    fn clear(&mut self, alloc: Global) {
+        self.is_here = false;
+        self.is_talking = false;
+        self.is_listed = false;
+        self.peer = None;
+        self.rest = Vec::new(alloc);
+        self.stopped = None;
+        self.lingers = None;
+        self.has_ended = false;
+        self.is_deaf = false;
+        self.is_deaf_told = false;
+        self.ceases = false;
+        self.is_writing = false;
+        self.wanted = NOTHING;
+    }
 }
 
 /// The connections by their clients' keys.
@@ -191,45 +225,30 @@ impl Conns {
     /// Gives a client its place, for which room was taken; whether it got it.
     pub(crate) fn place(&mut self, who: ClientId, peer: Option<u16>, now: u64) -> bool {
         let at = who.key as usize;
-        if at > self.all.len() {
-            return false;
+        if at == self.all.len() {
+            // There is room: it was taken before.
+            let _ = self.all.push(Conn::new(self.alloc));
         }
-        if at == self.all.len() && self.all.push(Conn::new(self.alloc)).is_err() {
+        let Some(conn) = self.all.get_mut(at) else {
             return false;
-        }
-        self.all[at].begin(who.round, peer, now);
+        };
+        conn.begin(who.round, peer, now);
         if peer.is_none() {
             self.count = self.count.saturating_add(1);
         }
         true
     }
 
-    /// The place of a client, if it is there.
-    pub(crate) fn find(&self, who: ClientId) -> Option<usize> {
-        let at = who.key as usize;
-        let conn = self.all.get(at)?;
-        if conn.is_here && conn.round == who.round {
-            Some(at)
-        } else {
-            None
-        }
-    }
-
-    /// The connection in a place.
-    pub(crate) fn at(&self, at: usize) -> Option<&Conn> {
-        self.all.get(at)
-    }
-
     /// The connection of a client.
     pub(crate) fn get(&self, who: ClientId) -> Option<&Conn> {
-        let at = self.find(who)?;
-        self.all.get(at)
+        let conn = self.all.get(who.key as usize)?;
+        if conn.is_of(who) { Some(conn) } else { None }
     }
 
     /// The connection of a client.
     pub(crate) fn get_mut(&mut self, who: ClientId) -> Option<&mut Conn> {
-        let at = self.find(who)?;
-        self.all.get_mut(at)
+        let conn = self.all.get_mut(who.key as usize)?;
+        if conn.is_of(who) { Some(conn) } else { None }
     }
 
     /// Who is in a place.
@@ -246,27 +265,26 @@ impl Conns {
 
     /// A client is gone.
     pub(crate) fn leave(&mut self, who: ClientId) {
-        let Some(at) = self.find(who) else {
+        let alloc = self.alloc;
+        let Some(conn) = self.get_mut(who) else {
             return;
         };
-        if self.all[at].peer.is_none() {
+        let has_socket = conn.peer.is_none();
+        conn.clear(alloc);
+        if has_socket {
             self.count = self.count.saturating_sub(1);
         }
-        let is_talking = self.all[at].is_talking;
-        let is_listed = self.all[at].is_listed;
-        self.all[at] = Conn::new(self.alloc);
-        // It stands in these lists until it is taken off.
-        self.all[at].is_talking = is_talking;
-        self.all[at].is_listed = is_listed;
     }
 
     /// A client may say something.
     pub(crate) fn talk(&mut self, who: ClientId) {
-        let Some(at) = self.find(who) else {
+        let at = who.key as usize;
+        let Some(conn) = self.all.get_mut(at) else {
             return;
         };
-        if !self.all[at].is_talking && self.talking.push_back(who).is_ok() {
-            self.all[at].is_talking = true;
+        if conn.is_of(who) && !conn.is_talking {
+            // There is room: it was taken with the place.
+            conn.is_talking = self.talking.push_back(who).is_ok();
         }
     }
 
@@ -278,7 +296,8 @@ impl Conns {
     /// The next that may say something, if it is still there; it stands among them no more.
     pub(crate) fn next_talking(&mut self) -> Option<ClientId> {
         let who = self.talking.pop_front()?;
-        if let Some(conn) = self.all.get_mut(who.key as usize) {
+        // Its place may be another's by now.
+        if let Some(conn) = self.get_mut(who) {
             conn.is_talking = false;
         }
         Some(who)
@@ -286,27 +305,32 @@ impl Conns {
 
     /// This is wanted of a connection.
     pub(crate) fn want(&mut self, who: ClientId, want: Want) {
-        let Some(at) = self.find(who) else {
+        let Some(conn) = self.get_mut(who) else {
             return;
         };
-        if self.all[at].peer.is_some() {
+        if conn.peer.is_some() {
             return;
         }
-        self.all[at].wanted.set(want, true);
-        self.list(at, who);
+        conn.wanted.set(want, true);
+        self.list(who);
     }
 
     /// That it is read again is not wanted: who reads it asks.
     pub(crate) fn unwant_hear(&mut self, who: ClientId) {
-        if let Some(at) = self.find(who) {
-            self.all[at].wanted.set(Want::Hear, false);
+        if let Some(conn) = self.get_mut(who) {
+            conn.wanted.set(Want::Hear, false);
         }
     }
 
-    /// Something is wanted of the connection in this place.
-    fn list(&mut self, at: usize, who: ClientId) {
-        if !self.all[at].is_listed && self.listed.push_back(who).is_ok() {
-            self.all[at].is_listed = true;
+    /// Something is wanted of this connection.
+    fn list(&mut self, who: ClientId) {
+        let at = who.key as usize;
+        let Some(conn) = self.all.get_mut(at) else {
+            return;
+        };
+        if !conn.is_listed {
+            // There is room: it was taken with the place.
+            conn.is_listed = self.listed.push_back(who).is_ok();
         }
     }
 
@@ -319,7 +343,7 @@ impl Conns {
     pub(crate) fn next_wanted(&mut self) -> Option<Action> {
         for _ in 0..self.listed.len() {
             let who = self.listed.pop_front()?;
-            if let Some(conn) = self.all.get_mut(who.key as usize) {
+            if let Some(conn) = self.get_mut(who) {
                 conn.is_listed = false;
             }
             if let Some(action) = self.wanted_of(who) {
@@ -331,17 +355,12 @@ impl Conns {
 
     /// What is wanted of this connection; it is listed again where there is more.
     fn wanted_of(&mut self, who: ClientId) -> Option<Action> {
-        let at = self.find(who)?;
-        let want = self.all[at].wanted.first()?;
-        self.all[at].wanted.set(want, false);
-        if want != Want::Close && self.all[at].wanted.first().is_some() {
-            self.list(at, who);
+        let conn = self.get_mut(who)?;
+        let want = conn.wanted.first()?;
+        conn.wanted.set(want, false);
+        if conn.wanted.first().is_some() {
+            self.list(who);
         }
-        Some(match want {
-            Want::Write => Action::Write(who),
-            Want::Hear => Action::Hear(who),
-            Want::End => Action::End(who),
-            Want::Close => Action::Close(who),
-        })
+        Some(want.action(who))
     }
 }

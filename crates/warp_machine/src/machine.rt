@@ -128,7 +128,9 @@ impl<T: Timeline> Machine<T> {
         facts.form = replica.program().form();
         facts.most_clients = most_of(options.most_clients, peers.len());
         let form = facts.form;
-        let program = Vec::from_slice(alloc, &facts.program)?;
+        let Ok(program) = Vec::from_slice(alloc, &facts.program) else {
+            return Err(OutOfMemory);
+        };
         let most_records = form.most_records();
         let has_tokens = pages.has_tokens();
         let room = Room::new(alloc, replica, MOST_LINES, MOST_ANSWERS);
@@ -141,7 +143,7 @@ impl<T: Timeline> Machine<T> {
             pages,
             peers: Vec::new(alloc),
             are_peers_due: true,
-            notes: VecDeque::with_capacity(alloc, MOST_NOTES)?,
+            notes: VecDeque::new(alloc),
             stopwatch: Stopwatch::new(alloc),
             timers: Timers::new(now),
             counted: NOTHING_COUNTED,
@@ -166,8 +168,10 @@ impl<T: Timeline> Machine<T> {
             wanted: options.wanted,
             has_tokens,
         });
-        machine.follow_all(form, peers)?;
-        Ok(machine)
+        match machine.follow_all(form, peers) {
+            Ok(()) => Ok(machine),
+            Err(error) => Err(error),
+        }
     }
 
     /// Follows these peers.
@@ -195,7 +199,6 @@ impl<T: Timeline> Machine<T> {
     /// An operator is to be told this.
     pub(crate) fn tell(&mut self, note: Note) {
         if self.notes.len() < MOST_NOTES {
-            // There is room: it was taken at the start.
             let _ = self.notes.push_back(note);
         }
     }

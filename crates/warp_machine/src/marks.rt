@@ -79,6 +79,23 @@ impl Cursor {
     }
 }
 
+impl Cursor {
+    /// What news give, if they are a page. One of its own is no longer on its way.
+    fn take_news(&mut self, news: News) -> Given {
+        let News::Page {
+            from,
+            next,
+            frozen,
+            is_own,
+        } = news
+        else {
+            return NOTHING;
+        };
+        self.is_asked &= !is_own;
+        self.take(from, next, frozen)
+    }
+}
+
 /// How far a watcher was pushed.
 #[derive(Clone, Copy)]
 pub(crate) enum Mark {
@@ -91,13 +108,13 @@ pub(crate) enum Mark {
 }
 
 impl Mark {
-    /// The mark of a watch that begins.
-    fn of(watch: Watch) -> Mark {
+    /// The mark of a watch that begins; a page of its own may be on its way.
+    fn of(watch: Watch, is_asked: bool) -> Mark {
         match watch {
             Watch::Log(next) | Watch::Released(next) => Mark::Page(Cursor {
                 next,
                 is_done: false,
-                is_asked: false,
+                is_asked,
             }),
             Watch::Vars | Watch::Horizon | Watch::Breach => Mark::Value(0),
             Watch::Steps => Mark::Steps(0),
@@ -106,31 +123,19 @@ impl Mark {
 
     /// What it gets of these news, while so many bytes are to be written to it; they count as pushed.
     pub(crate) fn take(&mut self, news: News, unread: usize) -> Given {
-        match (self, news) {
-            (
-                Mark::Page(cursor),
-                News::Page {
-                    from,
-                    next,
-                    frozen,
-                    is_own,
-                },
-            ) => {
-                cursor.is_asked &= !is_own;
-                cursor.take(from, next, frozen)
-            }
-            (Mark::Value(seen), News::Value(version)) => take_value(seen, version),
-            (Mark::Steps(left_out), News::Steps { left_out: before, count }) => {
-                *left_out = left_out.saturating_add(before);
-                take_steps(left_out, count, unread)
-            }
-            _ => NOTHING,
+        match self {
+            Mark::Page(cursor) => cursor.take_news(news),
+            Mark::Value(seen) => take_value(seen, news),
+            Mark::Steps(left_out) => take_steps(left_out, news, unread),
         }
     }
 }
 
 /// What a watcher gets of a value that was pushed this one last.
-fn take_value(seen: &mut u64, version: u64) -> Given {
+fn take_value(seen: &mut u64, news: News) -> Given {
+    let News::Value(version) = news else {
+        return NOTHING;
+    };
     if *seen == version {
         return NOTHING;
     }
@@ -138,8 +143,16 @@ fn take_value(seen: &mut u64, version: u64) -> Given {
     ALL
 }
 
-/// What a watcher gets of so many lines of steps, of which so many were left out before.
-fn take_steps(left_out: &mut u64, count: u64, unread: usize) -> Given {
+/// What a watcher gets of lines of steps, for which so many were left out before.
+fn take_steps(left_out: &mut u64, news: News, unread: usize) -> Given {
+    let News::Steps {
+        left_out: before,
+        count,
+    } = news
+    else {
+        return NOTHING;
+    };
+    *left_out = left_out.saturating_add(before);
     if unread >= MOST_BEFORE_STEPS {
         *left_out = left_out.saturating_add(count);
         return NOTHING;
@@ -214,13 +227,11 @@ impl Marks {
     /// Begins to watch, anew where it is watched already: a page that is on its way still comes.
     pub(crate) fn begin(&mut self, watch: Watch) {
         let subject = subject_of(watch);
-        let mut mark = Mark::of(watch);
-        if let Mark::Page(cursor) = &mut mark {
-            if let Some(before) = self.cursor(subject) {
-                cursor.is_asked = before.is_asked;
-            }
-        }
-        self.set(subject, Some(mark));
+        let is_asked = match self.cursor(subject) {
+            Some(cursor) => cursor.is_asked,
+            None => false,
+        };
+        self.set(subject, Some(Mark::of(watch, is_asked)));
     }
 
     /// Where it goes on, of what comes in pages, if it watches it.

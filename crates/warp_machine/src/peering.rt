@@ -31,6 +31,16 @@ impl Followed {
         }
     }
 
+    /// Does what the moment brings; whether there was anything.
+    fn tick(&mut self, now: u64) -> bool {
+        if self.peer.next_moment() > now {
+            return false;
+        }
+        self.peer.tick(now);
+        self.note();
+        true
+    }
+
     /// Something came of it.
     fn note(&mut self) {
         self.is_due = true;
@@ -143,28 +153,38 @@ impl<T: Timeline> Machine<T> {
             return;
         }
         for at in 0..self.peers.len() {
-            if self.peers[at].is_due {
-                self.go_on(at);
+            self.go_on(at);
+        }
+    }
+
+    /// Gives lines of a peer to its client, and takes the answers, where there are any.
+    fn go_on(&mut self, at: usize) {
+        for _ in 0..MOST_TIMES {
+            if !self.is_due(at) {
+                return;
+            }
+            let fed = self.feed_from(at);
+            let heard = self.answer_peer(at);
+            if let Some(followed) = self.peers.get_mut(at) {
+                followed.is_due = fed || heard;
+                followed.is_wanting = true;
             }
         }
     }
 
-    /// Gives lines of a peer to its client, and takes the answers.
-    fn go_on(&mut self, at: usize) {
-        for _ in 0..MOST_TIMES {
-            let fed = self.feed_from(at);
-            let heard = self.answer_peer(at);
-            if !fed && !heard {
-                self.peers[at].is_due = false;
-                return;
-            }
-            self.peers[at].is_wanting = true;
+    /// Whether lines of this peer may be given on, or answers taken.
+    fn is_due(&self, at: usize) -> bool {
+        match self.peers.get(at) {
+            Some(followed) => followed.is_due,
+            None => false,
         }
     }
 
     /// Gives lines of a peer to its client; whether it took any.
     fn feed_from(&mut self, at: usize) -> bool {
-        let followed = &mut self.peers[at];
+        let Some(followed) = self.peers.get_mut(at) else {
+            return false;
+        };
         let who = followed.who;
         let count = match self.clients.hear(who, followed.peer.lines()) {
             Ok(count) => count,
@@ -180,7 +200,9 @@ impl<T: Timeline> Machine<T> {
 
     /// Has a peer hear the room's answers; whether there were any.
     fn answer_peer(&mut self, at: usize) -> bool {
-        let followed = &mut self.peers[at];
+        let Some(followed) = self.peers.get_mut(at) else {
+            return false;
+        };
         let who = followed.who;
         let count = followed.peer.answers(self.clients.output(who), self.now);
         if count == 0 {
@@ -211,7 +233,7 @@ impl<T: Timeline> Machine<T> {
 
     /// What this peer wants next.
     fn next_of(&mut self, at: usize) -> Option<Action> {
-        let followed = &mut self.peers[at];
+        let followed = self.peers.get_mut(at)?;
         if !followed.is_wanting {
             return None;
         }
@@ -241,11 +263,7 @@ impl<T: Timeline> Machine<T> {
         }
         let now = self.now;
         for followed in self.peers.iter_mut() {
-            if followed.peer.next_moment() <= now {
-                followed.peer.tick(now);
-                followed.note();
-                self.are_peers_due = true;
-            }
+            self.are_peers_due |= followed.tick(now);
         }
     }
 

@@ -10,6 +10,9 @@ use warp_hub::Subject;
 use warp_line::Timeline;
 use warp_watch::{Question, Told};
 
+/// So many words that begin or end a watch are noted at once at most.
+const MOST_WATCHED: u32 = 1_048_576;
+
 /// So many pages of a watcher follow each other in a turn at most.
 const MOST_PAGES: u32 = 8;
 
@@ -19,7 +22,10 @@ const MOST_PUSHED: usize = 1 << 20;
 impl<T: Timeline> Machine<T> {
     /// Notes who watches what from now on. Without memory a client is told nothing more.
     pub(crate) fn note_watched(&mut self) {
-        while let Some(watched) = self.clients.watched() {
+        for _ in 0..MOST_WATCHED {
+            let Some(watched) = self.clients.watched() else {
+                return;
+            };
             if !self.watchers.note(watched.who, &watched.word) {
                 self.clients.stop(watched.who);
             }
@@ -137,30 +143,41 @@ impl<T: Timeline> Machine<T> {
             frozen: told.frozen,
             is_own: asked.who.is_some(),
         };
-        let tail = match subject {
-            Subject::Log => &mut self.watchers.log,
-            _ => &mut self.watchers.released,
-        };
-        let Some(who) = asked.who else {
-            let each = tail.told(from, told.next, told.frozen, told.len);
-            self.push_to_all(subject, news, told.len, &text);
-            if each {
-                self.watchers.want_all(subject);
+        match asked.who {
+            Some(who) => {
+                self.watchers
+                    .tail_mut(subject)
+                    .learn(from, until, told.next, told.frozen, told.len);
+                let _watches = self.push_to(who, subject, news, told.len, &text);
+                let _ = self.watchers.want(who.key);
             }
-            return;
-        };
-        tail.learn(from, until, told.next, told.frozen, told.len);
-        let _watches = self.push_to(who, subject, news, told.len, &text);
-        let _ = self.watchers.want(who.key);
+            None => self.push_page_to_all(subject, news, from, told, &text),
+        }
+    }
+
+    /// Pushes a page to all that watch; each asks for its own where they do not keep up.
+    fn push_page_to_all(
+        &mut self,
+        subject: Subject,
+        news: News,
+        from: u32,
+        told: &Told,
+        text: &[u8],
+    ) {
+        let each = self
+            .watchers
+            .tail_mut(subject)
+            .told(from, told.next, told.frozen, told.len);
+        self.push_to_all(subject, news, told.len, text);
+        if each {
+            self.watchers.want_all(subject);
+        }
     }
 
     /// Pushes the newest value of a thing to all that were not pushed it.
     fn push_value(&mut self, asked: Asked, subject: Subject, told: &Told) {
-        let latest = match subject {
-            Subject::Vars => &mut self.watchers.vars,
-            Subject::Horizon => &mut self.watchers.horizon,
-            _ => &mut self.watchers.breach,
-        };
+        let alloc = self.alloc;
+        let latest = self.watchers.latest_mut(subject);
         let Ok(is_due) = latest.told(told.len, &told.text) else {
             return;
         };
@@ -168,27 +185,35 @@ impl<T: Timeline> Machine<T> {
             return;
         }
         let news = News::Value(latest.version);
-        let Ok(text) = Vec::from_slice(self.alloc, &latest.text) else {
-            latest.want(true);
-            self.watchers.missed(asked);
-            return;
-        };
-        self.push_to_all(subject, news, told.len, &text);
+        match Vec::from_slice(alloc, &latest.text) {
+            Ok(text) => self.push_to_all(subject, news, told.len, &text),
+            Err(_) => {
+                latest.want(true);
+                self.watchers.missed(asked);
+            }
+        }
     }
 
     /// Pushes news of a thing, with this text, to all that watch it; who watches it no longer leaves its list.
     pub(crate) fn push_to_all(&mut self, subject: Subject, news: News, len: u32, text: &[u8]) {
-        let mut at = 0;
-        while let Some(key) = self.watchers.key_at(subject, at) {
-            let watches = match self.watchers.who(key) {
-                Some(who) => self.push_to(who, subject, news, len, text),
-                None => false,
-            };
-            if watches {
-                at += 1;
-            } else {
-                self.watchers.drop_at(subject, at);
-            }
+        // From the last on: what stands in the place of one that left was looked at.
+        let count = self.watchers.count(subject);
+        for behind in 0..count {
+            self.push_at(subject, count - behind - 1, news, len, text);
+        }
+    }
+
+    /// Pushes news to who stands at this place of the list of watchers, or takes it off.
+    fn push_at(&mut self, subject: Subject, at: usize, news: News, len: u32, text: &[u8]) {
+        let Some(key) = self.watchers.key_at(subject, at) else {
+            return;
+        };
+        let watches = match self.watchers.who(key) {
+            Some(who) => self.push_to(who, subject, news, len, text),
+            None => false,
+        };
+        if !watches {
+            self.watchers.drop_at(subject, at);
         }
     }
 

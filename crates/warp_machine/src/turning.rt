@@ -131,10 +131,7 @@ impl<T: Timeline> Machine<T> {
     /// Gives a client the bytes that wait for it, as far as it has room, and tells it where no more come. Whether it took
     /// some, and may take more.
     fn feed(&mut self, who: ClientId) -> bool {
-        let Some(at) = self.conns.find(who) else {
-            return false;
-        };
-        let Some(conn) = self.conns.at(at) else {
+        let Some(conn) = self.conns.get(who) else {
             return false;
         };
         let ends = conn.is_deaf && !conn.is_deaf_told;

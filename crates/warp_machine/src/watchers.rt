@@ -5,7 +5,7 @@ use crate::shared::{Latest, Tail};
 use std::alloc::{AllocError, Global};
 use std::collections::VecDeque;
 use warp_clients::ClientId;
-use warp_hub::{Subject, Word};
+use warp_hub::{Subject, Watch, Word};
 use warp_watch::{Question, Told};
 
 /// How many answers to what was asked for watchers may wait until they may be told on.
@@ -67,6 +67,14 @@ struct Place {
     is_wanting: bool,
 }
 
+/// A place where nobody is.
+const NO_PLACE: Place = Place {
+    round: 0,
+    marks: NO_MARKS,
+    enlisted: NOWHERE,
+    is_wanting: false,
+};
+
 /// What is asked for one watcher, or for all of a thing.
 #[derive(Clone, Copy)]
 pub(crate) struct Asked {
@@ -117,31 +125,37 @@ impl Watchers {
     pub(crate) fn place(&mut self, who: ClientId) -> Result<(), AllocError> {
         let at = who.key as usize;
         for _ in self.places.len()..at + 1 {
-            self.places.push(Place {
-                round: 0,
-                marks: NO_MARKS,
-                enlisted: NOWHERE,
-                is_wanting: false,
-            })?;
+            self.places.push(NO_PLACE)?;
         }
-        self.places[at].round = who.round;
-        self.places[at].marks = NO_MARKS;
+        if let Some(place) = self.places.get_mut(at) {
+            place.round = who.round;
+            place.marks = NO_MARKS;
+        }
         Ok(())
     }
 
     /// A client is gone: it watches nothing.
     pub(crate) fn leave(&mut self, who: ClientId) {
-        if let Some(at) = self.find(who) {
-            self.places[at].marks = NO_MARKS;
+        if let Some(place) = self.get_mut(who) {
+            place.marks = NO_MARKS;
         }
     }
 
     /// The place of a client.
-    fn find(&self, who: ClientId) -> Option<usize> {
-        let at = who.key as usize;
-        let place = self.places.get(at)?;
+    fn get(&self, who: ClientId) -> Option<&Place> {
+        let place = self.places.get(who.key as usize)?;
         if place.round == who.round {
-            Some(at)
+            Some(place)
+        } else {
+            None
+        }
+    }
+
+    /// The place of a client.
+    fn get_mut(&mut self, who: ClientId) -> Option<&mut Place> {
+        let place = self.places.get_mut(who.key as usize)?;
+        if place.round == who.round {
+            Some(place)
         } else {
             None
         }
@@ -187,47 +201,59 @@ impl Watchers {
 
     /// A client said this word, which begins or ends a watch; whether there was memory.
     pub(crate) fn note(&mut self, who: ClientId, word: &Word) -> bool {
-        let Some(at) = self.find(who) else {
-            return true;
-        };
         match *word {
-            Word::Watch(watch) => {
-                self.places[at].marks.begin(watch);
-                self.enlist(who.key, subject_of(watch))
-            }
+            Word::Watch(watch) => self.begin(who, watch),
             Word::Unwatch(subject) => {
-                self.places[at].marks.set(subject, None);
+                self.end(who, subject);
                 true
             }
             _ => true,
         }
     }
 
-    /// Puts a key into a list of watchers, once, and notes that what it watches is wanted; whether there was memory.
-    fn enlist(&mut self, key: u32, subject: Subject) -> bool {
-        let at = key as usize;
-        if !self.places[at].enlisted.has(subject) {
-            if self.keys_mut(subject).push(key).is_err() {
-                return false;
-            }
-            self.places[at].enlisted.set(subject, true);
+    /// A client watches this no longer.
+    fn end(&mut self, who: ClientId, subject: Subject) {
+        if let Some(place) = self.get_mut(who) {
+            place.marks.set(subject, None);
         }
-        let marks = self.places[at].marks;
+    }
+
+    /// A client begins to watch; whether there was memory.
+    fn begin(&mut self, who: ClientId, watch: Watch) -> bool {
+        let subject = subject_of(watch);
+        let Some(place) = self.get_mut(who) else {
+            return true;
+        };
+        place.marks.begin(watch);
+        let marks = place.marks;
         self.vars.want(marks.is_new(Subject::Vars));
         self.horizon.want(marks.is_new(Subject::Horizon));
         self.breach.want(marks.is_new(Subject::Breach));
-        self.want(key)
+        self.enlist(who, subject) && self.want(who.key)
+    }
+
+    /// Puts a client into a list of watchers, once; whether there was memory.
+    fn enlist(&mut self, who: ClientId, subject: Subject) -> bool {
+        let Some(place) = self.get_mut(who) else {
+            return true;
+        };
+        if place.enlisted.has(subject) {
+            return true;
+        }
+        place.enlisted.set(subject, true);
+        self.keys_mut(subject).push(who.key).is_ok()
     }
 
     /// The client of this key may want pages of its own; whether there was memory.
     pub(crate) fn want(&mut self, key: u32) -> bool {
-        let at = key as usize;
-        if at >= self.places.len() || self.places[at].is_wanting {
+        let Some(place) = self.places.get_mut(key as usize) else {
+            return true;
+        };
+        if place.is_wanting {
             return true;
         }
-        let is_noted = self.wanting.push_back(key).is_ok();
-        self.places[at].is_wanting = is_noted;
-        is_noted
+        place.is_wanting = self.wanting.push_back(key).is_ok();
+        place.is_wanting
     }
 
     /// All watchers of pages may want their own.
@@ -255,27 +281,30 @@ impl Watchers {
 
     /// The page that a client wants of its own, which is on its way then: it is behind the others, and none is.
     pub(crate) fn next_page(&mut self, who: ClientId) -> Option<Question> {
-        let at = self.find(who)?;
-        if let Some((from, until)) = self.page_of(at, Subject::Log) {
-            self.places[at].marks.ask(Subject::Log, true);
+        if let Some((from, until)) = self.page_of(who, Subject::Log) {
+            self.ask(who, Subject::Log, true);
             return Some(Question::Log { from, until });
         }
-        let (from, until) = self.page_of(at, Subject::Released)?;
-        self.places[at].marks.ask(Subject::Released, true);
+        let (from, until) = self.page_of(who, Subject::Released)?;
+        self.ask(who, Subject::Released, true);
         Some(Question::Released { from, until })
+    }
+
+    /// A page of a client's own is on its way, or does not come.
+    fn ask(&mut self, who: ClientId, subject: Subject, is_asked: bool) {
+        if let Some(place) = self.get_mut(who) {
+            place.marks.ask(subject, is_asked);
+        }
     }
 
     /// Whether it wants another.
     pub(crate) fn wants_page(&self, who: ClientId) -> bool {
-        let Some(at) = self.find(who) else {
-            return false;
-        };
-        self.page_of(at, Subject::Log).is_some() || self.page_of(at, Subject::Released).is_some()
+        self.page_of(who, Subject::Log).is_some() || self.page_of(who, Subject::Released).is_some()
     }
 
-    /// From where to where the page goes that the client in this place wants of its own.
-    fn page_of(&self, at: usize, subject: Subject) -> Option<(u32, u32)> {
-        let place = self.places.get(at)?;
+    /// From where to where the page goes that a client wants of its own.
+    fn page_of(&self, who: ClientId, subject: Subject) -> Option<(u32, u32)> {
+        let place = self.get(who)?;
         let cursor = place.marks.cursor(subject)?;
         let tail = match subject {
             Subject::Log => &self.log,
@@ -306,26 +335,44 @@ impl Watchers {
 
     /// What was asked could not be told: it is asked again.
     pub(crate) fn missed(&mut self, asked: Asked) {
-        let subject = match asked.question {
-            Question::Log { .. } => Subject::Log,
-            Question::Released { .. } => Subject::Released,
-            Question::Vars => return self.vars.missed(),
-            Question::Horizon => return self.horizon.missed(),
-            Question::Breaches => return self.breach.missed(),
-            _ => return,
-        };
-        match (asked.who, subject) {
-            (Some(who), _) => self.miss_own(who, subject),
-            (None, Subject::Log) => self.log.missed(),
-            (None, _) => self.released.missed(),
+        match asked.question {
+            Question::Log { .. } => self.miss_page(asked.who, Subject::Log),
+            Question::Released { .. } => self.miss_page(asked.who, Subject::Released),
+            Question::Vars => self.vars.missed(),
+            Question::Horizon => self.horizon.missed(),
+            Question::Breaches => self.breach.missed(),
+            Question::Releases
+            | Question::Release(_)
+            | Question::Counts(_)
+            | Question::Reached(_) => {}
         }
     }
 
-    /// A page of a client's own does not come.
-    fn miss_own(&mut self, who: ClientId, subject: Subject) {
-        if let Some(at) = self.find(who) {
-            self.places[at].marks.ask(subject, false);
-            let _ = self.want(who.key);
+    /// A page does not come, for one watcher or for all.
+    fn miss_page(&mut self, who: Option<ClientId>, subject: Subject) {
+        match who {
+            Some(who) => {
+                self.ask(who, subject, false);
+                let _ = self.want(who.key);
+            }
+            None => self.tail_mut(subject).missed(),
+        }
+    }
+
+    /// Where the watchers of pages are that have all there is.
+    pub(crate) fn tail_mut(&mut self, subject: Subject) -> &mut Tail {
+        match subject {
+            Subject::Log => &mut self.log,
+            _ => &mut self.released,
+        }
+    }
+
+    /// The newest value of a thing.
+    pub(crate) fn latest_mut(&mut self, subject: Subject) -> &mut Latest {
+        match subject {
+            Subject::Vars => &mut self.vars,
+            Subject::Horizon => &mut self.horizon,
+            _ => &mut self.breach,
         }
     }
 
@@ -350,6 +397,11 @@ impl Watchers {
         self.told.pop_front()
     }
 
+    /// How many stand in a list of watchers.
+    pub(crate) fn count(&self, subject: Subject) -> usize {
+        self.keys(subject).len()
+    }
+
     /// The key at this place of a list of watchers.
     pub(crate) fn key_at(&self, subject: Subject, at: usize) -> Option<u32> {
         let key = self.keys(subject).get(at)?;
@@ -358,10 +410,10 @@ impl Watchers {
 
     /// Who stands at this place of a list watches no longer: it leaves the list.
     pub(crate) fn drop_at(&mut self, subject: Subject, at: usize) {
-        if at >= self.keys(subject).len() {
+        let key = remove(self.keys_mut(subject), at);
+        let Some(key) = key else {
             return;
-        }
-        let key = self.keys_mut(subject).swap_remove(at);
+        };
         if let Some(place) = self.places.get_mut(key as usize) {
             place.enlisted.set(subject, false);
         }
@@ -376,10 +428,18 @@ impl Watchers {
         news: News,
         unread: usize,
     ) -> Option<Given> {
-        let at = self.find(who)?;
-        let mut mark = self.places[at].marks.get(subject)?;
+        let place = self.get_mut(who)?;
+        let mut mark = place.marks.get(subject)?;
         let given = mark.take(news, unread);
-        self.places[at].marks.set(subject, Some(mark));
+        place.marks.set(subject, Some(mark));
         Some(given)
     }
+}
+
+/// Takes off what stands at this place of the list, with the last in its place.
+fn remove(list: &mut Vec<u32>, at: usize) -> Option<u32> {
+    if at >= list.len() {
+        return None;
+    }
+    Some(list.swap_remove(at))
 }

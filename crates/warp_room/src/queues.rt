@@ -1,8 +1,8 @@
 //! Clients by their seats, each with the lines of its own that wait, and whose turn it is.
 ghost use Rattle.std.specs.Prelude.{◌≡◌, ◌↔◌, ◌<◌, ◌≤◌, ◌++◌, ◌∷◌, [], ℕ, false, true, IfErr, IfNone, IfOk, IfSome};
-ghost use Rattle.std.specs.Prelude.{Err, IsOk, IsTrue, List, OnErr, OnOk, Some, length, slice_get, ◌^◌};
+ghost use Rattle.std.specs.Prelude.{Err, IsOk, IsTrue, List, OnErr, OnOk, Some, length, slice_get, slice_set, ◌^◌};
 ghost use Rattle.warp_record.specs.declared.line.Line.{Line};
-ghost use Rattle.warp_room.specs.Queues.{Comes, Hears, IsFirst, IsSeat, LeavesSeat, SeatState, TakesLine, has_turn};
+ghost use Rattle.warp_room.specs.Queues.{Comes, Hears, IsFirst, IsSeat, LeavesSeat, SeatState, TakesLine, has_turn, new_seat};
 ghost use Rattle.warp_room.specs.Queues.{lines_of, may_answer, may_turn};
 ghost use Rattle.warp_room.specs.declared.queues.Unheard.{Unheard};
 
@@ -226,23 +226,38 @@ impl Queues {
         };
         let key = match free_seat(&self.seats) {
             Some(key) => {
-                self.seats[key].come(round);
+                self.take_seat(key, round);
                 key
             }
-            None => {
-                let key = self.seats.len();
-                if key >= MOST_SEATS {
-                    return Err(OutOfMemory);
-                }
-                self.seats.push(Seat::new(alloc, round))?;
-                key
-            }
+            None => self.add_seat(alloc, round)?,
         };
         self.came = came;
         Ok(ClientId {
             key: key as u32,
             round,
         })
+    }
+
+    /// A client has come, and has this seat.
+    fn take_seat(&mut self, key: usize, round: u64)
+        requires { key < length self.old.seats }
+        ensures { self.new ≡ record self.old { seats = slice_set self.old.seats key (new_seat round) } }
+    {
+        self.seats[key].come(round);
+    }
+
+    /// A client has come, and has a seat behind the others: its key. `Err` changes nothing.
+    fn add_seat(&mut self, alloc: Global, round: u64) -> Result<usize, OutOfMemory>
+        ensures ok { IfOk result (λ key. (key ≡ length self.old.seats) × (key < 2 ^ 32)
+            × (self.new ≡ record self.old { seats = self.old.seats ++ new_seat round ∷ [] })) }
+        ensures err { OnErr result (self.new ≡ self.old) }
+    {
+        let key = self.seats.len();
+        if key >= MOST_SEATS {
+            return Err(OutOfMemory);
+        }
+        self.seats.push(Seat::new(alloc, round))?;
+        Ok(key)
     }
 
     /// Whether the client has a seat.
@@ -383,11 +398,19 @@ fn first_waiting(seats: &[Seat], low: usize, high: usize) -> usize
         key < high → seat.lines ≡ [] }
 {
     for key in low..high {
-        if seats[key].waiting() > 0 {
+        if waits_at(seats, key) {
             return key;
         }
     }
     high
+}
+
+/// Whether a line waits of the seat of this key.
+fn waits_at(seats: &[Seat], key: usize) -> bool
+    requires { key < length seats.now }
+    ensures { result ≡ false → (seat : SeatState) → slice_get seats.now key ≡ Some seat → seat.lines ≡ [] }
+{
+    seats[key].first().is_some()
 }
 
 /// A seat that no client has.
