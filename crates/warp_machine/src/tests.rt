@@ -411,9 +411,10 @@ const WATCHES: &[Act] = &[
     Act::Says(0, b"unwatch log\nunwatch vars\nwatch breach\n"),
     Act::Wrote(0, b"watching 1\nwatching 0\nwatching 1\n* breach 2\n"),
     Act::Says(1, b"event 0 7 0 0 5\nwatch steps\nevent 0 8 0 0 1\n"),
-    Act::Wrote(
+    // A plain timeline executes all steps again for each record.
+    Act::WroteLast(
         1,
-        b"taken 3\nwatching 1\ntaken 4\n* step {\"tag\":[8,0],\"given\":{\"a\":1},\"due\":[],\"changed\":{\"total\":51},\"outputs\":{\"y\":51},\"pending\":0}\n",
+        b"\n* step {\"tag\":[8,0],\"given\":{\"a\":1},\"due\":[],\"changed\":{\"total\":51},\"outputs\":{\"y\":51},\"pending\":0}\n",
     ),
     Act::Wrote(0, b""),
 ];

@@ -107,8 +107,9 @@ impl Seat {
 
     /// The first line is answered, and waits no longer.
     fn drop_first(&mut self)
-        ensures { (said : Line) (rest : List Line) → self.old.lines ≡ said ∷ rest →
+        ensures some { (said : Line) (rest : List Line) → self.old.lines ≡ said ∷ rest →
             self.new ≡ record self.old { lines = rest } }
+        ensures none { self.old.lines ≡ [] → self.new ≡ self.old }
     {
         let _answered = self.lines.pop_front();
     }
@@ -364,9 +365,25 @@ impl Queues {
         ensures { (seat : SeatState) (said : Line) (rest : List Line) → IsSeat self.old.seats who seat →
             seat.lines ≡ said ∷ rest → TakesLine who seat rest self.old self.new }
     {
+        self.drop_line(who);
+        self.narrow();
+    }
+
+    /// The first line of this client is answered: the next turn is looked for behind its seat.
+    fn drop_line(&mut self, who: ClientId)
+        requires { (seat : SeatState) × IsSeat self.old.seats who seat }
+        ensures { (seat : SeatState) (said : Line) (rest : List Line) → IsSeat self.old.seats who seat →
+            seat.lines ≡ said ∷ rest → TakesLine who seat rest self.old self.new }
+    {
         let key = who.key as usize;
         self.seats[key].drop_first();
         self.next = key + 1;
+    }
+
+    /// Seats of which no line waits are looked at no more.
+    fn narrow(&mut self)
+        ensures { self.new ≡ self.old }
+    {
         self.low = first_waiting(&self.seats, self.low, self.high);
     }
 }

@@ -1,8 +1,8 @@
 //! Work in parts: answering lines and executing what they brought, so that what is released is shown between them.
-ghost use Rattle.std.specs.Prelude.{◌≡◌, ◌≤◌, List, length};
+ghost use Rattle.std.specs.Prelude.{◌≡◌, ◌≤◌, IfNone, IfSome, List, length};
 ghost use Rattle.warp_replica.specs.Answered.{facts_of};
 ghost use Rattle.warp_room.specs.declared.answers.AnsweredLine.{AnsweredLine};
-ghost use Rattle.warp_room.specs.Steps.{RoomDoes, ServeEach};
+ghost use Rattle.warp_room.specs.Steps.{RoomDoes, ServeEach, Serves};
 ghost use Rattle.warp_room.specs.Steps as steps;
 
 use crate::room::{Room, Worked};
@@ -20,15 +20,26 @@ impl<T: Timeline> Room<T> {
         ensures { (served : List AnsweredLine) × (length served ≤ most_lines)
             × ServeEach (facts_of T.settled T.refused T.floor T.SLACK) served self.old self.new }
     {
-        for _ in 0..most_lines {
-            if self.is_to_show() {
-                return Worked::More;
-            }
-            if let Some(worked) = self.serve(alloc, false) {
+        let mut count = 0;
+        while count < most_lines {
+            if let Some(worked) = self.answer_one(alloc) {
                 return worked;
             }
+            count += 1;
         }
         Worked::More
+    }
+
+    /// Answers the oldest line of the client whose turn it is; or says why not, and changes nothing.
+    fn answer_one(&mut self, alloc: Global) -> Option<Worked>
+        ensures served { IfNone result ((one : AnsweredLine) ×
+            Serves (facts_of T.settled T.refused T.floor T.SLACK) one self.old self.new) }
+        ensures ends { IfSome result (λ why. self.new ≡ self.old) }
+    {
+        if self.is_to_show() {
+            return Some(Worked::More);
+        }
+        self.serve(alloc, false)
     }
 
     /// Executes what is not done, by at most so many steps, which this meter counts.
