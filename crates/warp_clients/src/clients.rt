@@ -463,7 +463,8 @@ impl<T: Timeline> Clients<T> {
     /// Whole lines that tell of a log of this length are pushed to a client between its answers; whether they were. They are not
     /// where of so long a log may not be told yet, where the client is told nothing more, and where it is not there.
     pub fn push(&mut self, who: ClientId, len: u32, text: &[u8]) -> bool
-        ensures yes { result ≡ true → StepDoes (facts_of T.settled T.refused T.floor T.SLACK) (steps.Does who (Pushed len text.now)) self.old self.new }
+        ensures yes { result ≡ true → StepDoes (facts_of T.settled T.refused T.floor T.SLACK)
+            (steps.Does who (Pushed len text.now)) self.old self.new }
         ensures no { result ≡ false → (self.new ≡ self.old)
             ⊎ StepDoes (facts_of T.settled T.refused T.floor T.SLACK) (steps.Does who Ended) self.old self.new }
     {

@@ -1,5 +1,6 @@
 //! Clients in their places: each call is for one client, which is looked for by its key and its round here, once.
-ghost use Rattle.std.specs.Prelude.{◌≡◌, ◌⊎◌, ◌≤◌, ◌<◌, ◌++◌, ◌∷◌, [], ℕ, List, Some, None, false, true, IfErr, IfNone, IfOk, IfSome, OnErr, OnOk};
+ghost use Rattle.std.specs.Prelude.{◌≡◌, ◌⊎◌, ◌≤◌, ◌<◌, ◌++◌, ◌∷◌, [], ℕ, List, Some, None, false, true};
+ghost use Rattle.std.specs.Prelude.{IfErr, IfNone, IfOk, IfSome, OnErr, OnOk};
 ghost use Rattle.std.specs.Prelude.{IsTrue, length, slice_get, slice_set, take};
 ghost use Rattle.warp_record.specs.Reply.{reply_line};
 ghost use Rattle.warp_clients.specs.Client.{ClientState, Closes, Ends, GoesIn, HasLine, Hears, IsMe, IsNext, Listens, Loses, MayCarry};
