@@ -7,9 +7,11 @@ use Rattle.warp_watch.specs.declared.client_id.ClientId.{ClientId}
 use Rattle.warp_web.specs.Lines.{Passed}
 use Rattle.warp_web.specs.Wire.{Passes}
 use Rattle.warp_web.specs.declared.wire.Wire.{Wire}
-use Rattle.warp_clients.specs.Client.{ClientState, IsMe, Keeps, Loses}
+use Rattle.warp_clients.specs.Client.{ClientState, IsMe, IsRest, Keeps, Listens, Loses, SaysNothing}
 use Rattle.warp_clients.specs.Crowd.{Becomes, MayDo}
 use Rattle.warp_clients.specs.Sayings.{IsSaying}
+use Rattle.warp_clients.specs.declared.client.Listened.{Listened}
+use Rattle.warp_clients.specs.declared.client.Listened.TheVariants as listened
 use Rattle.warp_clients.specs.declared.saying.Saying.{Saying}
 use Rattle.warp_clients.proofs.InPlaces.{none_some, some_same}
 use Rattle.warp_clients.proofs.Moving.{set_own}
@@ -53,4 +55,24 @@ keeps_line f failing piece said c c' w was is passes same =
       is,
       (λ p before. subst (λ (x : Wire). Passes (record p { said = p.said ++ piece ∷ [] }) x) wire (passes p before)),
       same ∙ (λ i. record c { wire = wire i; slot = Some said }),
+    )
+
+-- it said nothing, and may say more or not
+pub rests_so : (f : Facts) (failing : Bool) (l : Listened) (c c' : ClientState) → IsRest l → SaysNothing c c' → Listens f failing l c c'
+rests_so f failing listened.Kept c c' is silent = absurd is
+rests_so f failing listened.More c c' is silent = absurd is
+rests_so f failing listened.Requests c c' is silent = absurd is
+rests_so f failing listened.Upgrade c c' is silent = absurd is
+rests_so f failing listened.Nothing c c' is silent = inr silent
+rests_so f failing listened.Ended c c' is silent = silent
+rests_so f failing listened.Lost c c' is silent = absurd is
+
+pub rests_line : (f : Facts) (failing : Bool) (l : Listened) (c c' : ClientState) (w : Wire) → c.gone ≡ false → IsRest l
+    → ((p : Passed) → Passes p c.wire → Passes (record p { said = p.said ++ [] }) w) → c' ≡ record c { wire = w } → Listens f failing l c c'
+rests_line f failing l c c' w up is passes same =
+    let wire : w ≡ c'.wire = sym (ap (λ (x : ClientState). x.wire) same) in
+    rests_so f failing l c c' is (
+      up,
+      (λ p before. subst (λ (x : Wire). Passes (record p { said = p.said ++ [] }) x) wire (passes p before)),
+      same ∙ (λ i. record c { wire = wire i }),
     )

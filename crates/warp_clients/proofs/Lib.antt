@@ -4,5 +4,6 @@ mod One
 mod ToldTales
 mod Moving
 mod Stepping
+mod Entered
 mod Cuts
 mod At

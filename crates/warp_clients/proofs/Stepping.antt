@@ -15,7 +15,7 @@ use Rattle.warp_room.specs.declared.room.Worked.{Worked}
 use Rattle.warp_watch.specs.declared.client_id.ClientId.{ClientId}
 use Rattle.warp_web.specs.Wire.{output_of}
 use Rattle.warp_clients.specs.Client as deed
-use Rattle.warp_clients.specs.Client.{ClientState, Common, MayWrite, Misses, Replies}
+use Rattle.warp_clients.specs.Client.{ClientState, Closes, Common, MayWrite, Misses, Replies}
 use Rattle.warp_clients.specs.Crowd.{Becomes, CrowdState, GetsPlace, IsAway, IsFresh, IsThere, MayDo, Moves, MovesAt}
 use Rattle.warp_clients.specs.Steps.{ClientsState, Runs, SomeRun, Step, StepDoes}
 use Rattle.warp_clients.specs.Steps as step
@@ -119,15 +119,38 @@ module _ {T : Type 0} (facts : TimelineFacts T) where
         (between, (tt, (w.executes.program, w.executes.records, refl), refl), served_runs w.served between s' w.serves crowd),
       )
 
+  -- it answers lines
+  pub serve_run : (most : ℕ) (s s' : ClientsState T)
+      → (served : List AnsweredLine) × (length served ≤ most) × ServeEach facts served s.room s'.room
+      → s'.crowd ≡ s.crowd → SomeRun facts s s'
+  serve_run most s s' served crowd =
+      (map (λ (one : AnsweredLine). step.Works (room.Answered one)) served.0, served_runs served.0 s s' served.2 crowd)
+
   -- it shows what is released
+  pub show_step : (s s' : ClientsState T) → s'.room ≡ record s.room { shown = s'.room.shown } → s'.crowd ≡ s.crowd
+      → StepDoes facts (step.Works room.Executed) s s'
+  show_step s s' is crowd = (let same = ap (λ (r : RoomState T). r.replica) is in (
+    tt,
+    (
+      ap (λ (r : RoomState T). r.replica.program) is,
+      ap (λ (r : RoomState T). r.replica.records) is,
+      is ∙ (λ i. record s.room { replica = sym same i; shown = s'.room.shown }),
+    ),
+    crowd,
+  ))
+
   pub show_run : (s s' : ClientsState T) → s'.room ≡ record s.room { shown = s'.room.shown } → s'.crowd ≡ s.crowd → SomeRun facts s s'
-  show_run s s' is crowd = (let same = ap (λ (r : RoomState T). r.replica) is in
-      run_one facts (step.Works room.Executed) s s' (
-        tt,
-        (
-          ap (λ (r : RoomState T). r.replica.program) is,
-          ap (λ (r : RoomState T). r.replica.records) is,
-          is ∙ (λ i. record s.room { replica = sym same i; shown = s'.room.shown }),
-        ),
-        crowd,
-      ))
+  show_run s s' is crowd = run_one facts (step.Works room.Executed) s s' (show_step s s' is crowd)
+
+  -- its other end is asked for a sign of it, or its connection is lost
+  pub closed_step : (s s' : ClientsState T) (who : ClientId) → s'.room ≡ s.room → MayDo Closes who s.crowd.clients s'.crowd.clients
+      → s'.crowd.common ≡ s.crowd.common
+      → (s' ≡ s) ⊎ (StepDoes facts (step.Does who deed.Quieted) s s' ⊎ StepDoes facts (step.Does who deed.Lost) s s')
+  closed_step s s' who room (inl same) common =
+      inl (λ i. record { room = room i; crowd = record { clients = same i; common = common i } })
+  closed_step s s' who room (inr (c, c', at, me, inl own, is)) common =
+      let same : s'.crowd.clients ≡ s.crowd.clients =
+      is ∙ ap (λ (x : ClientState). slice_set s.crowd.clients who.key x) own ∙ set_own s.crowd.clients who.key c at in
+      inl (λ i. record { room = room i; crowd = record { clients = same i; common = common i } })
+  closed_step s s' who room (inr (c, c', at, me, inr (inl quiet), is)) common = inr (inl (room, ((c, c', at, me, quiet, is), common)))
+  closed_step s s' who room (inr (c, c', at, me, inr (inr lost), is)) common = inr (inr (room, ((c, c', at, me, lost, is), common)))

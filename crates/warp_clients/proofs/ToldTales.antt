@@ -22,7 +22,8 @@ use Rattle.warp_web.specs.Wire.{Passes}
 use Rattle.warp_clients.specs.Sayings.{first_rights}
 use Rattle.warp_clients.specs.Client.{ClientState, Common, Deed, DoesFor, GoesIn, IsMe, Misses, Replies}
 use Rattle.warp_clients.specs.Client as deed
-use Rattle.warp_clients.specs.Crowd.{Becomes, CrowdState, GetsPlace, Goes, IsAway, IsFresh}
+use Rattle.warp_clients.specs.Crowd.{Becomes, CrowdState, GetsPlace, Goes, IsAway}
+use Rattle.warp_clients.specs.Entering.{GetsPlaceAs, IsFreshAs}
 use Rattle.warp_clients.specs.Steps.{ClientsState, IsWork, Runs, Step, StepDoes}
 use Rattle.warp_clients.specs.Steps as step
 use Rattle.warp_clients.specs.Tale.{AreAllowed, AreTold, ClientTale, Entry, IsAllowed, IsEmpty, IsTold, Reply, and_told, behind_deed, behind_step, behind_steps, room_steps, silence, tale_of}
@@ -128,11 +129,25 @@ module _ {T : Type 0} (facts : TimelineFacts T) where
     older = older;
   }
 
-  -- a client that comes
+  -- a client that comes, with these rights
 
-  fresh_told : (k : Common) (who : ClientId) (c : ClientState) → IsFresh k who c → IsTold (silence (first_rights k.facts)) [] c
-  fresh_told k who c fresh =
-      subst (λ (x : ClientState). IsTold (silence (first_rights k.facts)) [] x) (sym fresh.is) (record {
+  fresh_is : (r : Rights) (k : Common) (who : ClientId) (c : ClientState) (fresh : IsFreshAs r k who c) → c ≡ record {
+    round = who.round;
+    here = true;
+    wire = fresh.0.wire;
+    rights = r;
+    slot = None;
+    owed = 0;
+    out = [];
+    wrong = 0;
+    over = false;
+    gone = false;
+  }
+  fresh_is r k who c fresh = fresh.2 ∙ ap (λ (x : ClientState). record x { rights = r }) fresh.1.is
+
+  fresh_told : (r : Rights) (k : Common) (who : ClientId) (c : ClientState) → IsFreshAs r k who c → IsTold (silence r) [] c
+  fresh_told r k who c fresh =
+      subst (λ (x : ClientState). IsTold (silence r) [] x) (sym (fresh_is r k who c fresh)) (record {
         owed = refl;
         rest = [];
         order = refl;
@@ -141,44 +156,57 @@ module _ {T : Type 0} (facts : TimelineFacts T) where
         allowed = λ said is. absurd (none_some _ is);
         text = refl;
         said = refl;
-        passes = λ up. fresh.silent;
+        passes = λ up. fresh.1.silent;
       })
 
-  fresh_me : (k : Common) (who : ClientId) (c : ClientState) → IsFresh k who c → IsMe who c
-  fresh_me k who c fresh = (ap (λ (x : ClientState). x.here) fresh.is, ap (λ (x : ClientState). x.round) fresh.is)
+  fresh_me : (r : Rights) (k : Common) (who : ClientId) (c : ClientState) → IsFreshAs r k who c → IsMe who c
+  fresh_me r k who c fresh =
+      (ap (λ (x : ClientState). x.here) (fresh_is r k who c fresh), ap (λ (x : ClientState). x.round) (fresh_is r k who c fresh))
+
+  -- with the rights without a token, where it brings none of its own
+  first_as : (k : Common) (who : ClientId) (old new : List ClientState) → GetsPlace k who old new
+      → GetsPlaceAs (first_rights k.facts) k who old new
+  first_as k who old new (c, fresh, place) = (
+    c,
+    (c, fresh, fresh.is ∙ ap (λ (x : ClientState). record x { rights = first_rights k.facts }) (sym fresh.is)),
+    place,
+  )
 
   -- who is there behind the coming: the one that came, or another who was there
-  one_more : (k : Common) (who v : ClientId) (old new : List ClientState) (g : GetsPlace k who old new) (d : ClientState)
+  one_more : (r : Rights) (k : Common) (who v : ClientId) (old new : List ClientState) (g : GetsPlaceAs r k who old new) (d : ClientState)
       → slice_get new v.key ≡ Some d → IsMe v d → ((v ≡ who) × (d ≡ g.0)) ⊎ ((v ≢ who) × (slice_get old v.key ≡ Some d))
-  one_more k who v old new (c, fresh, inl next) d at me =
+  one_more r k who v old new (c, fresh, inl next) d at me =
       elim (get_more old v.key d c (sym (ap (λ (cs : List ClientState). slice_get cs v.key) next.1) ∙ at)) [
         | inl there ↦ inr (
           (λ same. get_behind old d (sym (ap (λ (n : ℕ). slice_get old n) (ap (λ (w : ClientId). w.key) same ∙ next.0)) ∙ there)),
           there,
         )
         | inr last ↦ inl (
-          same_client v who (last.0 ∙ sym next.0) (sym me.1 ∙ ap (λ (x : ClientState). x.round) (sym last.1) ∙ (fresh_me k who c fresh).1),
+          same_client v who (last.0 ∙ sym next.0)
+              (sym me.1 ∙ ap (λ (x : ClientState). x.round) (sym last.1) ∙ (fresh_me r k who c fresh).1),
           sym last.1,
         )
       ]
-  one_more k who v old new (c, fresh, inr free) d at me =
-      elim (one_changed who v c d old free.0 free.1 (fresh_me k who c fresh) (sym (ap (λ (cs : List ClientState). slice_get cs v.key) free.3) ∙ at) me) [
+  one_more r k who v old new (c, fresh, inr free) d at me =
+      elim (one_changed who v c d old free.0 free.1 (fresh_me r k who c fresh)
+      (sym (ap (λ (cs : List ClientState). slice_get cs v.key) free.3) ∙ at) me) [
         | inl one ↦ inl one
         | inr one ↦ inr (differs_key who v one.0, one.1)
       ]
 
   -- who is not there behind it is another, who was not there before
-  away_more : (k : Common) (who v : ClientId) (old new : List ClientState) → GetsPlace k who old new → IsAway v new → (v ≢ who) × IsAway v old
-  away_more k who v old new (c, fresh, inl next) away = (
+  away_more : (r : Rights) (k : Common) (who v : ClientId) (old new : List ClientState) → GetsPlaceAs r k who old new
+      → IsAway v new → (v ≢ who) × IsAway v old
+  away_more r k who v old new (c, fresh, inl next) away = (
     (λ same. away c (ap (λ (cs : List ClientState). slice_get cs v.key) next.1
         ∙ ap (λ (n : ℕ). slice_get (old ++ c ∷ []) n) (ap (λ (w : ClientId). w.key) same ∙ next.0) ∙ get_last old c)
-        (subst (λ (w : ClientId). IsMe w c) (sym same) (fresh_me k who c fresh))),
+        (subst (λ (w : ClientId). IsMe w c) (sym same) (fresh_me r k who c fresh))),
     (λ d is me. away d (ap (λ (cs : List ClientState). slice_get cs v.key) next.1 ∙ get_still old v.key d c is) me),
   )
-  away_more k who v old new (c, fresh, inr free) away = (
+  away_more r k who v old new (c, fresh, inr free) away = (
     (λ same. away c (ap (λ (cs : List ClientState). slice_get cs v.key) free.3
         ∙ ap (λ (n : ℕ). slice_get (slice_set old who.key c) n) (ap (λ (w : ClientId). w.key) same) ∙ get_same old who.key free.0 c free.1)
-        (subst (λ (w : ClientId). IsMe w c) (sym same) (fresh_me k who c fresh))),
+        (subst (λ (w : ClientId). IsMe w c) (sym same) (fresh_me r k who c fresh))),
     (λ d is me. elim (cases_eq who.key v.key) [
       | inl key ↦ (let one : free.0 ≡ d = some_same free.0 d (sym free.1 ∙ ap (λ (n : ℕ). slice_get old n) key ∙ is) in
           true≢false (sym me.0 ∙ ap (λ (x : ClientState). x.here) (sym one) ∙ free.2))
@@ -187,43 +215,55 @@ module _ {T : Type 0} (facts : TimelineFacts T) where
   )
 
   -- it is of its round, and the others of an earlier one
-  rounds_more : (k : Common) (who : ClientId) (old new : List ClientState) (n : ℕ) → GetsPlace k who old new → who.round ≡ n
+  rounds_more : (r : Rights) (k : Common) (who : ClientId) (old new : List ClientState) (n : ℕ)
+      → GetsPlaceAs r k who old new → who.round ≡ n
       → ((key : ℕ) (c : ClientState) → slice_get old key ≡ Some c → c.round < n)
       → (key : ℕ) (d : ClientState) → slice_get new key ≡ Some d → d.round < n + 1
-  rounds_more k who old new n (c, fresh, inl next) round before key d at =
+  rounds_more r k who old new n (c, fresh, inl next) round before key d at =
       elim (get_more old key d c (sym (ap (λ (cs : List ClientState). slice_get cs key) next.1) ∙ at)) [
         | inl there ↦ (let less = before key d there in omega (arith, less))
-        | inr last ↦ (let is : d.round ≡ who.round = ap (λ (x : ClientState). x.round) (sym last.1) ∙ (fresh_me k who c fresh).1 in omega (arith, is, round))
+        | inr last ↦ (let is : d.round ≡ who.round = ap (λ (x : ClientState). x.round) (sym last.1) ∙ (fresh_me r k who c fresh).1 in
+            omega (arith, is, round))
       ]
-  rounds_more k who old new n (c, fresh, inr free) round before key d at = elim (cases_eq who.key key) [
+  rounds_more r k who old new n (c, fresh, inr free) round before key d at = elim (cases_eq who.key key) [
     | inl same ↦ (let one : c ≡ d = some_same c d (sym (get_same old who.key free.0 c free.1)
         ∙ ap (λ (m : ℕ). slice_get (slice_set old who.key c) m) same ∙ sym (ap (λ (cs : List ClientState). slice_get cs key) free.3) ∙ at) in
-        let is : d.round ≡ who.round = ap (λ (x : ClientState). x.round) (sym one) ∙ (fresh_me k who c fresh).1 in omega (arith, is, round))
+        let is : d.round ≡ who.round = ap (λ (x : ClientState). x.round) (sym one) ∙ (fresh_me r k who c fresh).1 in
+        omega (arith, is, round))
     | inr other ↦ (let less = before key d (sym (get_other old who.key key c other) ∙ sym (ap (λ (cs : List ClientState). slice_get cs key) free.3) ∙ at) in
         omega (arith, less))
   ]
 
-  told_joins : (f : Facts) (who : ClientId) (tales : Tales) (s s' : ClientsState T) → s.crowd.common.facts ≡ f
-      → StepDoes facts (step.Joins who) s s' → AreTold tales s → AreTold (λ v. behind_step f v (step.Joins who) (tales v)) s'
-  told_joins f who tales s s' same does told =
+  told_enters : (f : Facts) (who : ClientId) (rights : Rights) (tales : Tales) (s s' : ClientsState T)
+      → StepDoes facts (step.Enters who rights) s s' → AreTold tales s
+      → AreTold (λ v. behind_step f v (step.Enters who rights) (tales v)) s'
+  told_enters f who rights tales s s' does told =
       let place = does.1.0 in
       let k = s.crowd.common in
       record {
-        each = λ v d at me. elim (one_more k who v s.crowd.clients s'.crowd.clients place d at me) [
-          | inl one ↦ subst (λ (w : ClientId). IsTold (behind_step f w (step.Joins who) (tales w)) (open_lines s'.room w) d) (sym one.0)
-              (told_as (silence (first_rights k.facts)) (behind_step f who (step.Joins who) (tales who)) [] (open_lines s'.room who) d
-              (mine_then who (silence (first_rights f)) (tales who) ∙ ap (λ (x : Facts). silence (first_rights x)) (sym same))
-              (came_none facts s.room s'.room who told.older does.0)
-              (subst (λ (x : ClientState). IsTold (silence (first_rights k.facts)) [] x) (sym one.1) (fresh_told k who place.0 place.1)))
-          | inr one ↦ told_as (tales v) (behind_step f v (step.Joins who) (tales v)) (open_lines s.room v) (open_lines s'.room v) d
-              (others_then v who (silence (first_rights f)) (tales v) one.0) (came facts s.room s'.room who v does.0) (told.each v d one.1 me)
+        each = λ v d at me. elim (one_more rights k who v s.crowd.clients s'.crowd.clients place d at me) [
+          | inl one ↦ subst (λ (w : ClientId). IsTold (behind_step f w (step.Enters who rights) (tales w)) (open_lines s'.room w) d)
+              (sym one.0)
+              (told_as (silence rights) (behind_step f who (step.Enters who rights) (tales who)) [] (open_lines s'.room who) d
+              (mine_then who (silence rights) (tales who)) (came_none facts s.room s'.room who told.older does.0)
+              (subst (λ (x : ClientState). IsTold (silence rights) [] x) (sym one.1) (fresh_told rights k who place.0 place.1)))
+          | inr one ↦ told_as (tales v) (behind_step f v (step.Enters who rights) (tales v)) (open_lines s.room v) (open_lines s'.room v) d
+              (others_then v who (silence rights) (tales v) one.0) (came facts s.room s'.room who v does.0) (told.each v d one.1 me)
         ];
-        away = λ v gone. (let before = away_more k who v s.crowd.clients s'.crowd.clients place gone in
+        away = λ v gone. (let before = away_more rights k who v s.crowd.clients s'.crowd.clients place gone in
             came facts s.room s'.room who v does.0 ∙ told.away v before.1);
         rounds = λ key d at. subst (λ (n : ℕ). d.round < n) (sym does.0.0.came)
-            (rounds_more k who s.crowd.clients s'.crowd.clients s.room.queues.came place does.0.0.round told.rounds key d at);
+            (rounds_more rights k who s.crowd.clients s'.crowd.clients s.room.queues.came place does.0.0.round told.rounds key d at);
         older = older_kept facts (room.Came who ∷ []) s.room s'.room (s'.room, does.0, refl) told.older;
       }
+
+  told_joins : (f : Facts) (who : ClientId) (tales : Tales) (s s' : ClientsState T) → s.crowd.common.facts ≡ f
+      → StepDoes facts (step.Joins who) s s' → AreTold tales s → AreTold (λ v. behind_step f v (step.Joins who) (tales v)) s'
+  told_joins f who tales s s' same does told =
+      let k = s.crowd.common in
+      subst (λ (x : Facts). AreTold (λ v. behind_step f v (step.Enters who (first_rights x)) (tales v)) s') same
+      (told_enters f who (first_rights k.facts) tales s s'
+      (does.0, (first_as k who s.crowd.clients s'.crowd.clients does.1.0, does.1.1)) told)
 
   told_turned : (who : ClientId) (tales : Tales) (s s' : ClientsState T) → StepDoes facts (step.Turned who) s s' → AreTold tales s → AreTold tales s'
   told_turned who tales s s' does told =
@@ -375,6 +415,7 @@ module _ {T : Type 0} (facts : TimelineFacts T) where
   told_on : (f : Facts) (one : Step) (tales : Tales) (s s' : ClientsState T) → s.crowd.common.facts ≡ f → StepDoes facts one s s'
       → AreTold tales s → AreTold (λ v. behind_step f v one (tales v)) s'
   told_on f (step.Joins who) tales s s' same does told = told_joins f who tales s s' same does told
+  told_on f (step.Enters who rights) tales s s' same does told = told_enters f who rights tales s s' does told
   told_on f (step.Turned who) tales s s' same does told = told_turned who tales s s' does told
   told_on f (step.Leaves who) tales s s' same does told = told_leaves who tales s s' does told
   told_on f (step.Does who d) tales s s' same does told = told_does f who d tales s s' does told
@@ -390,6 +431,7 @@ module _ {T : Type 0} (facts : TimelineFacts T) where
   -- what the host knows from its start stays
   facts_stay : (one : Step) (s s' : ClientsState T) → StepDoes facts one s s' → s'.crowd.common.facts ≡ s.crowd.common.facts
   facts_stay (step.Joins who) s s' does = ap (λ (k : Common). k.facts) does.1.1
+  facts_stay (step.Enters who rights) s s' does = ap (λ (k : Common). k.facts) does.1.1
   facts_stay (step.Turned who) s s' does = ap (λ (c : CrowdState). c.common.facts) does.1
   facts_stay (step.Leaves who) s s' does = ap (λ (k : Common). k.facts) does.1.1
   facts_stay (step.Does who d) s s' does = ap (λ (k : Common). k.facts) does.1.1
@@ -410,6 +452,7 @@ module _ {T : Type 0} (facts : TimelineFacts T) where
   -- a line that goes to the room is allowed
   allowed_one : (one : Step) (tales : Tales) (s s' : ClientsState T) → StepDoes facts one s s' → AreTold tales s → IsAllowed one tales
   allowed_one (step.Joins who) tales s s' does told = tt
+  allowed_one (step.Enters who rights) tales s s' does told = tt
   allowed_one (step.Turned who) tales s s' does told = tt
   allowed_one (step.Leaves who) tales s s' does told = tt
   allowed_one (step.Does who d) tales s s' does told = tt
@@ -456,6 +499,7 @@ module _ {T : Type 0} (facts : TimelineFacts T) where
   pub room_runs : (steps : List Step) (s s' : ClientsState T) → Runs facts steps s s' → RoomRuns facts (room_steps steps) s.room s'.room
   room_runs [] s s' runs = ap (λ (x : ClientsState T). x.room) runs
   room_runs (step.Joins who ∷ steps) s s' runs = (runs.0.room, runs.1.0, room_runs steps runs.0 s' runs.2)
+  room_runs (step.Enters who rights ∷ steps) s s' runs = (runs.0.room, runs.1.0, room_runs steps runs.0 s' runs.2)
   room_runs (step.Turned who ∷ steps) s s' runs =
       (runs.1.0.0, runs.1.0.1, (runs.0.room, runs.1.0.2, room_runs steps runs.0 s' runs.2))
   room_runs (step.Leaves who ∷ steps) s s' runs = (runs.0.room, runs.1.0, room_runs steps runs.0 s' runs.2)

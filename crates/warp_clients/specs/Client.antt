@@ -194,6 +194,16 @@ Listens f failing listened.Nothing c c' = (c' ≡ c) ⊎ SaysNothing c c'
 Listens f failing listened.Ended c c' = SaysNothing c c'
 Listens f failing listened.Lost c c' = Loses c c'
 
+-- it said nothing, and may say more or not
+abbrev pub IsRest : Listened → Type 0
+IsRest listened.Kept = ⊥
+IsRest listened.More = ⊥
+IsRest listened.Requests = ⊥
+IsRest listened.Upgrade = ⊥
+IsRest listened.Nothing = Unit {0}
+IsRest listened.Ended = Unit {0}
+IsRest listened.Lost = ⊥
+
 abbrev pub MayUpgrade : Rights → ClientState → ClientState → Type 0
 MayUpgrade rights c c' = Loses c c' ⊎ ((unread : List ℕ) × Upgrades rights unread c c')
 

@@ -87,12 +87,18 @@ refused_13 = codes "refused 13\n"
 abbrev pub refused_14 : List ℕ
 refused_14 = codes "refused 14\n"
 
+-- the answer to a word that begins or ends a watch: how many things the client watches then
+abbrev pub IsWatching : List ℕ → Type 0
+IsWatching text = (count : ℕ) × (count ≤ 6) × (text ≡ codes "watching " ++ (48 + count) ∷ 10 ∷ [])
+
 -- The texts that are answered here. Of a word that is asked about the replica, and of a look, the answer is given with the
 -- step that tells it.
 abbrev pub IsOwn : Facts → Saying → List ℕ → Type 0
 IsOwn f (saying.Line said) text = ⊥
 IsOwn f (saying.Word word.Program) text = text ≡ f.program.items ++ 10 ∷ []
 IsOwn f (saying.Word word.Names) text = text ≡ f.names.items ++ 10 ∷ []
+IsOwn f (saying.Word (word.Watch what)) text = IsWatching text
+IsOwn f (saying.Word (word.Unwatch what)) text = IsWatching text
 IsOwn f (saying.Word said) text = IsAsked said
 IsOwn f (saying.Look asked) text = Unit {0}
 IsOwn f (saying.Token found) text = ⊥

@@ -5,20 +5,24 @@ use Rattle.warp_replica.specs.Answered.{TimelineFacts}
 use Rattle.warp_room.specs.Room.{RoomState}
 use Rattle.warp_room.specs.Steps.{Answered, Came, Executed, Handed, Heard, Left, RoomDoes, RoomStep}
 use Rattle.warp_room.specs.declared.answers.AnsweredLine.{AnsweredLine}
+use Rattle.warp_hub.specs.declared.rights.Rights.{Rights}
 use Rattle.warp_watch.specs.declared.client_id.ClientId.{ClientId}
 use Rattle.warp_clients.specs.Client.{ClientState, Deed, DoesFor, GoesIn, Misses, Replies}
 use Rattle.warp_clients.specs.Crowd.{Becomes, CrowdState, GetsPlace, Goes, IsAway}
+use Rattle.warp_clients.specs.Entering.{GetsPlaceAs}
 
 -- a room, and its clients
 pub record ClientsState (T : Type 0) : Type 0 where
   pub room : RoomState T
   pub crowd : CrowdState
 
--- One step. `Joins who`: a client comes. `Turned who`: it comes, has no place, and goes. `Leaves who`: it goes. `Does who deed`: this is
--- done for it. `Asks who said`: its line goes to the room. `Tells one`: the room's answer goes to who asked. `Drops one`: it goes to
--- nobody. `Works step`: the room works. `Limits len`: of so long a log may be told. `Fails is`: records are refused, or not.
+-- One step. `Joins who`: a client comes. `Enters who rights`: it comes with these rights. `Turned who`: it comes, has no place, and
+-- goes. `Leaves who`: it goes. `Does who deed`: this is done for it. `Asks who said`: its line goes to the room. `Tells one`: the
+-- room's answer goes to who asked. `Drops one`: it goes to nobody. `Works step`: the room works. `Limits len`: of so long a log may
+-- be told. `Fails is`: records are refused, or not.
 pub data Step : Type 0 where
   Joins : ClientId → Step
+  Enters : ClientId → Rights → Step
   Turned : ClientId → Step
   Leaves : ClientId → Step
   Does : ClientId → Deed → Step
@@ -45,6 +49,8 @@ Places R old new = R old.clients new.clients × (new.common ≡ old.common)
 -- what a step does
 abbrev pub StepDoes : {T : Type 0} → TimelineFacts T → Step → ClientsState T → ClientsState T → Type 0
 StepDoes facts (Joins who) s s' = RoomDoes facts (Came who) s.room s'.room × Places (GetsPlace s.crowd.common who) s.crowd s'.crowd
+StepDoes facts (Enters who rights) s s' =
+    RoomDoes facts (Came who) s.room s'.room × Places (GetsPlaceAs rights s.crowd.common who) s.crowd s'.crowd
 StepDoes {T} facts (Turned who) s s' =
     ((between : RoomState T) × RoomDoes facts (Came who) s.room between × RoomDoes facts (Left who) between s'.room)
     × (s'.crowd ≡ s.crowd)

@@ -69,6 +69,7 @@ behind_deed (deed.Upgraded rights unread) t =
 -- The tale of a client behind one step more. What is not done for it changes nothing.
 abbrev pub behind_step : Facts → ClientId → Step → ClientTale → ClientTale
 behind_step f who (step.Joins w) t = if is_client who w then silence (first_rights f) else t
+behind_step f who (step.Enters w rights) t = if is_client who w then silence rights else t
 behind_step f who (step.Turned w) t = t
 behind_step f who (step.Leaves w) t = t
 behind_step f who (step.Does w deed) t = if is_client who w then behind_deed deed t else t
@@ -156,7 +157,7 @@ pub record IsEmpty {T : Type 0} (s : ClientsState T) : Type 0 where
   pub seats : s.room.queues.seats ≡ []
   pub made : s.room.made ≡ []
 
--- a line goes to the room with the rights of the last token that its client said and was told of
+-- a line goes to the room with the rights of the last token that its client said and was told of, or else with those with which it came
 abbrev pub IsAllowed : Step → (ClientId → ClientTale) → Type 0
 IsAllowed (step.Asks who said) tales = IsTrue (may_send (rights_behind (tales who).first (tales who).told) said)
 IsAllowed other tales = Unit {0}
@@ -169,6 +170,7 @@ AreAllowed f (step ∷ steps) tales = IsAllowed step tales × AreAllowed f steps
 abbrev pub room_steps : List Step → List RoomStep
 room_steps [] = []
 room_steps (step.Joins who ∷ steps) = room.Came who ∷ room_steps steps
+room_steps (step.Enters who rights ∷ steps) = room.Came who ∷ room_steps steps
 room_steps (step.Turned who ∷ steps) = room.Came who ∷ room.Left who ∷ room_steps steps
 room_steps (step.Leaves who ∷ steps) = room.Left who ∷ room_steps steps
 room_steps (step.Does who deed ∷ steps) = room_steps steps

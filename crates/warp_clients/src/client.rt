@@ -1,12 +1,14 @@
 //! A client: its connection, what it may send, what it said that is neither in the room nor answered.
 ghost use Rattle.std.specs.Prelude.{◌≡◌, ◌⊎◌, ◌≤◌, [], ℕ, None, Some, false, IfErr, IfOk, IfSome, IsTrue, OnErr, length, take, ◌↔◌};
-ghost use Rattle.warp_clients.specs.Client.{Closes, Common, GoesIn, HasLine, Hears, IsMe, Listens, Loses, MayUpgrade, Rests};
+ghost use Rattle.warp_clients.specs.Client.{Closes, Common, GoesIn, HasLine, Hears, IsMe, IsRest, Listens, Loses};
+ghost use Rattle.warp_clients.specs.Client.{MayUpgrade, Rests};
 ghost use Rattle.warp_clients.specs.Crowd.{Goes, IsFresh};
 ghost use Rattle.warp_clients.specs.Sayings.{IsSaying};
 ghost use Rattle.warp_clients.specs.declared.saying.Saying.{Saying};
 ghost use Rattle.warp_record.specs.Lines.{piece_of};
 
 use crate::saying::{Saying, first_rights, is_strange, read_saying};
+use crate::watching::{NO_SUBJECTS, Subjects};
 use bytes::BytesMut;
 use std::alloc::Global;
 use std::hash::RandomState;
@@ -71,6 +73,10 @@ pub(crate) struct Client {
     pub(crate) is_closed: bool,
     /// It stands among those for which there is something to do.
     pub(crate) is_listed: bool,
+    /// What it watches.
+    pub(crate) watches: Subjects,
+    /// It is over once it has said the whole lines that came.
+    pub(crate) ceases: bool,
 }
 
 impl Model for Client {
@@ -115,6 +121,8 @@ impl Client {
             is_web: false,
             is_closed: false,
             is_listed: false,
+            watches: NO_SUBJECTS,
+            ceases: false,
         }
     }
 
@@ -233,12 +241,24 @@ impl Client {
             Said::Requests => Listened::Requests,
             Said::Upgrade => Listened::Upgrade,
             Said::More => Listened::More,
-            Said::Nothing => Listened::Nothing,
+            Said::Nothing => self.rest(),
             Said::End => {
                 self.has_ended = true;
                 Listened::Ended
             }
         }
+    }
+
+    /// It says nothing now: that was all of one of which nothing more is heard, unless it waits for what is to be written.
+    fn rest(&mut self) -> Listened
+        ensures same { self.new ≡ self.old }
+        ensures quiet { IsRest result }
+    {
+        if !self.ceases || self.wire.is_behind() {
+            return Listened::Nothing;
+        }
+        self.has_ended = true;
+        Listened::Ended
     }
 
     /// A line is read, and waits. Over lines the first one must be some, or nothing behind it is heard.

@@ -49,9 +49,9 @@ pub enum Refused {
 /// All clients of a room, with the room.
 #[derive(Drop)]
 pub struct Clients<T: Timeline> {
-    alloc: Global,
-    room: Room<T>,
-    crowd: Crowd,
+    pub(crate) alloc: Global,
+    pub(crate) room: Room<T>,
+    pub(crate) crowd: Crowd,
     asking: Asking,
 }
 

@@ -3,13 +3,16 @@ ghost use Rattle.std.specs.Prelude.{◌≡◌, ◌⊎◌, ◌≤◌, [], ℕ, Li
 ghost use Rattle.std.specs.Prelude.{IsTrue, ◌<◌, length, slice_get, take};
 ghost use Rattle.warp_clients.specs.Client.{ClientState, GoesIn, HasLine, Hears, IsNext, Loses, Misses, Replies};
 ghost use Rattle.warp_clients.specs.declared.saying.Saying.TheVariants.{Token};
+ghost use Rattle.warp_clients.specs.declared.saying.Saying.TheVariants as saying;
 ghost use Rattle.warp_clients.specs.Crowd.{Becomes, GetsPlace, Goes, IsAway, IsThere, MayDo, Moves};
 
 use crate::asking::question_of;
 use crate::client::{Client, Listened};
+use crate::counts::{Counts, NO_COUNTS};
 use crate::places::Places;
 use crate::saying::{Saying, first_rights};
 use crate::texts::{NOT_ALLOWED, spell_own, spell_reply, spell_rights};
+use crate::watching::{Watched, is_watch};
 use std::alloc::{AllocError, Global};
 use std::collections::VecDeque;
 use std::hash::RandomState;
@@ -46,6 +49,10 @@ pub(crate) struct Crowd {
     pub(crate) changed: VecDeque<ClientId>,
     /// A text on its way to a client.
     pub(crate) text: Vec<u8>,
+    /// What was counted.
+    pub(crate) counts: Counts,
+    /// Words that began or ended a watch and were answered, and who said them.
+    pub(crate) watched: VecDeque<Watched>,
 }
 
 impl Model for Crowd {
@@ -72,6 +79,8 @@ impl Crowd {
             count: 0,
             changed: VecDeque::new(alloc),
             text: Vec::new(alloc),
+            counts: NO_COUNTS,
+            watched: VecDeque::new(alloc),
         }
     }
 
@@ -182,7 +191,9 @@ impl Crowd {
     pub(crate) fn listen(&mut self, who: ClientId) -> Listened
         ensures { Moves who self.old self.new }
     {
-        self.places.listen(who, &self.facts, self.is_failing)
+        let listened = self.places.listen(who, &self.facts, self.is_failing);
+        self.counts.listened(listened);
+        listened
     }
 
     /// Answers the requests that came of a client.
@@ -234,7 +245,9 @@ impl Crowd {
             self.places.miss(one.who);
             return false;
         }
-        self.places.reply(one, &self.text)
+        let is_told = self.places.reply(one, &self.text);
+        self.counts.replied(is_told, one.answer.len);
+        is_told
     }
 
     /// Answers what a client said, where all before it is answered and the answer is given here; or says what is due.
@@ -271,11 +284,16 @@ impl Crowd {
 
     /// Answers a word, or says what is to be asked.
     fn word(&mut self, who: ClientId, said: &Saying, word: &Word) -> Due
-        requires { IsThere who (IsNext said.now) self.old.clients }
+        requires next { IsThere who (IsNext said.now) self.old.clients }
+        requires is { said.now ≡ saying.Word word.now }
         ensures { Moves who self.old self.new }
     {
         if let Some(question) = question_of(word) {
             return Due::Ask(question);
+        }
+        if is_watch(word) {
+            self.watch(who, said, word);
+            return Due::Nothing;
         }
         self.own(who, said);
         Due::Nothing
@@ -290,6 +308,7 @@ impl Crowd {
             self.places.lose(who);
             return;
         }
+        self.counts.answered(said);
         self.places.speak(who, &self.facts, said, &self.text);
     }
 
@@ -298,6 +317,7 @@ impl Crowd {
         requires { IsThere who (IsNext (Token None)) self.old.clients }
         ensures { Moves who self.old self.new }
     {
+        self.counts.refused();
         self.places.refuse(who, NOT_ALLOWED);
     }
 
@@ -310,6 +330,7 @@ impl Crowd {
             self.places.lose(who);
             return;
         }
+        self.counts.spoke();
         self.places.grant(who, rights, &self.text);
     }
 }

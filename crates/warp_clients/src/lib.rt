@@ -9,18 +9,24 @@
 mod asking;
 mod client;
 mod clients;
+mod counts;
 mod crowd;
+mod entering;
 mod law;
+mod looking;
 mod places;
 mod saying;
 mod telling;
 #[cfg(test)]
 mod tests;
 mod texts;
+mod watching;
 mod writing;
 
 pub use clients::{Clients, Refused, Visits};
+pub use counts::Counts;
 pub use law::what_is_told;
-pub use warp_room::Worked;
+pub use warp_room::{Progress, Untold, Worked};
 pub use warp_watch::ClientId;
-pub use warp_web::{Answers, Gone};
+pub use warp_web::{Answers, Gone, Kind};
+pub use watching::Watched;

@@ -23,7 +23,7 @@ use warp_web::{Answers, Gone};
 /// The clients by their keys.
 #[derive(Drop)]
 pub(crate) struct Places {
-    clients: Vec<Client>,
+    pub(crate) clients: Vec<Client>,
 }
 
 impl Model for Places {

@@ -7,7 +7,7 @@ use http_server::{Response, Service};
 use std::alloc::{AllocError, Global};
 use std::hash::RandomState;
 use std::test::Fail;
-use warp_hub::{Facts, Rights, Tokens};
+use warp_hub::{Facts, Rights, Tokens, Word};
 use warp_line::Plain;
 use warp_replica::Replica;
 use warp_room::Room;
@@ -63,6 +63,12 @@ enum Act {
     Works(u32),
     /// No more bytes come of this client.
     Ends(usize),
+    /// Nothing more is heard of this client.
+    Ceases(usize),
+    /// One more client comes, which may read.
+    Enters,
+    /// The next word that was kept is of this client, and begins a watch or ends one.
+    Watched(usize, bool),
     /// This client is gone.
     Leaves(usize),
     /// Records are refused from now on, or not.
@@ -161,6 +167,32 @@ fn ends(clients: &mut Clients<Plain>, who: ClientId) {
     clients.say(who, &mut Door { answered: 0 });
 }
 
+/// Nothing more is heard of a client.
+fn ceases(clients: &mut Clients<Plain>, who: ClientId) {
+    clients.cease(who);
+    clients.say(who, &mut Door { answered: 0 });
+}
+
+/// One more client comes, which may read.
+fn enters(
+    rt: &HostRuntime,
+    clients: &mut Clients<Plain>,
+    outputs: &mut Vec<(ClientId, Vec<u8>)>,
+) -> Result<(), Fail> {
+    let who = clients.come_as(Rights::Read).map_err(|_| "no place")?;
+    outputs.push((who, Vec::new(rt.alloc())))?;
+    Ok(())
+}
+
+/// The next word that was kept is of this client, and begins a watch or ends one.
+fn watched(clients: &mut Clients<Plain>, who: ClientId, begins: bool) -> Result<(), Fail> {
+    let Some(one) = clients.watched() else {
+        return Err("no word was kept".into());
+    };
+    same(one.who == who)?;
+    same(matches!(one.word, Word::Watch(_)) == begins)
+}
+
 /// Whether this was written to this client, behind what was written before or, where only the last is asked for, last.
 fn wrote(
     outputs: &mut Vec<(ClientId, Vec<u8>)>,
@@ -181,6 +213,7 @@ fn wrote(
 
 /// Does a step.
 fn do_act(
+    rt: &HostRuntime,
     clients: &mut Clients<Plain>,
     outputs: &mut Vec<(ClientId, Vec<u8>)>,
     act: Act,
@@ -192,6 +225,12 @@ fn do_act(
             ends(clients, who_at(outputs, at)?);
             Ok(())
         }
+        Act::Ceases(at) => {
+            ceases(clients, who_at(outputs, at)?);
+            Ok(())
+        }
+        Act::Enters => enters(rt, clients, outputs),
+        Act::Watched(at, begins) => watched(clients, who_at(outputs, at)?, begins),
         Act::Leaves(at) => same(clients.leave(who_at(outputs, at)?)),
         Act::Fails(is_failing) => {
             clients.refuse_records(is_failing);
@@ -225,7 +264,7 @@ fn play(rt: &HostRuntime, tokens: Option<&[u8]>, count: usize, acts: &[Act]) -> 
         outputs.push((who, Vec::new(rt.alloc())))?;
     }
     for one in acts {
-        do_act(&mut clients, &mut outputs, *one)?;
+        do_act(rt, &mut clients, &mut outputs, *one)?;
     }
     Ok(())
 }
@@ -323,4 +362,62 @@ const WEB: &[Act] = &[
 #[test]
 fn lines_over_websocket(rt: HostRuntime) -> Result<(), Fail> {
     play(&rt, None, 1, WEB)
+}
+
+/// Words that begin and end watches are answered behind the lines before them, each by how many things are watched then, and
+/// kept in their order.
+const WATCHES: &[Act] = &[
+    Act::Says(
+        0,
+        b"watch vars\nwatch log 1\nevent 0 5 0 0 3\nunwatch vars\nunwatch vars\nwatch log 3\n",
+    ),
+    Act::Wrote(0, b"watching 1\nwatching 2\n"),
+    Act::Watched(0, true),
+    Act::Watched(0, true),
+    Act::Works(1),
+    Act::Wrote(0, b"taken 1\nwatching 1\nwatching 1\nwatching 1\n"),
+    Act::Watched(0, false),
+    Act::Watched(0, false),
+    Act::Watched(0, true),
+];
+
+#[test]
+fn watches_in_their_order(rt: HostRuntime) -> Result<(), Fail> {
+    play(&rt, None, 1, WATCHES)
+}
+
+/// A client that comes with rights has these and no more, where another has none without a token; and those of a token once
+/// it says one.
+const ENTERS: &[Act] = &[
+    Act::Enters,
+    Act::Says(0, b"watch vars\nvar 0\n"),
+    Act::Says(1, b"watch vars\nvar 0\nevent 0 5 0 0 3\n"),
+    Act::Works(9),
+    Act::Wrote(0, b"refused 13\nrefused 13\n"),
+    Act::Wrote(1, b"watching 1\nvar 0 0\nrefused 13\n"),
+    Act::Says(1, b"token a\nevent 0 5 0 0 3\n"),
+    Act::Works(9),
+    Act::Wrote(1, b"may 0\ntaken 1\n"),
+];
+
+#[test]
+fn rights_from_the_start(rt: HostRuntime) -> Result<(), Fail> {
+    play(&rt, Some(b"a 0\n"), 1, ENTERS)
+}
+
+/// Of a client of which nothing more is heard the whole lines that came are answered, the last one that is not ended is not,
+/// and then it is over.
+const CEASES: &[Act] = &[
+    Act::Says(0, b"event 0 5 0 0 3\nwatch vars\nvar 0"),
+    Act::Ceases(0),
+    Act::Wrote(0, b""),
+    Act::Works(1),
+    Act::Works(1),
+    Act::Wrote(0, b"taken 1\nwatching 1\n"),
+    Act::Over(0),
+];
+
+#[test]
+fn ceases_behind_its_lines(rt: HostRuntime) -> Result<(), Fail> {
+    play(&rt, None, 1, CEASES)
 }

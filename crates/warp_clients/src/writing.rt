@@ -36,6 +36,7 @@ impl Crowd {
             self.places.lose(who);
             return;
         }
+        self.counts.spoke();
         self.places.speak(who, &self.facts, said, &self.text);
     }
 
@@ -60,6 +61,7 @@ impl Crowd {
         requires most { len ≤ self.old.common.limit }
         ensures { Moves who self.old self.new }
     {
+        self.counts.told(len);
         self.places.speak(who, &self.facts, said, text);
     }
 
@@ -73,6 +75,7 @@ impl Crowd {
             return false;
         }
         let is_pushed = self.places.push(who, text);
+        self.counts.pushed(is_pushed);
         self.note(who);
         is_pushed
     }

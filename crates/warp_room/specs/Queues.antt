@@ -64,6 +64,11 @@ pub record IsFirst (all : Bool) (seats : List SeatState) (next key : ℕ) : Type
   pub has : IsTrue (has_turn all seats key)
   pub none : (other : ℕ) → ComesBefore next other key → has_turn all seats other ≡ false
 
+-- For proofs: lines wait of seats between these two alone, the first among them.
+abbrev pub WaitWithin : ℕ → ℕ → List SeatState → Type 0
+WaitWithin low high seats =
+    (key : ℕ) (seat : SeatState) → slice_get seats key ≡ Some seat → (seat.lines ≡ []) ⊎ ((low ≤ key) × (key < high))
+
 -- the seat of a client that has just come
 abbrev pub new_seat : ℕ → SeatState
 new_seat round = record { round = round; taken = true; lines = [] }

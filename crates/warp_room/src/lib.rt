@@ -11,6 +11,7 @@ mod law;
 mod queues;
 mod records;
 mod room;
+mod showing;
 #[cfg(test)]
 mod tests;
 
@@ -18,5 +19,7 @@ pub use answers::AnsweredLine;
 pub use law::{calls_are_steps, comers_are_new, few_wait, is_history, oldest_first, records_once};
 pub use queues::Unheard;
 pub use room::{Room, Untold, Worked};
+pub use warp_line::Progress;
 pub use warp_replica::Answer;
+pub use warp_tag::OutOfMemory;
 pub use warp_watch::ClientId;

@@ -1,8 +1,8 @@
 //! Clients by their seats, each with the lines of its own that wait, and whose turn it is.
 ghost use Rattle.std.specs.Prelude.{◌≡◌, ◌↔◌, ◌<◌, ◌≤◌, ◌++◌, ◌∷◌, [], ℕ, false, true, IfErr, IfNone, IfOk, IfSome};
-ghost use Rattle.std.specs.Prelude.{Err, IsOk, IsTrue, List, OnErr, OnOk, Some, length, slice_get};
+ghost use Rattle.std.specs.Prelude.{Err, IsOk, IsTrue, List, OnErr, OnOk, Some, length, slice_get, slice_set, ◌^◌};
 ghost use Rattle.warp_record.specs.declared.line.Line.{Line};
-ghost use Rattle.warp_room.specs.Queues.{Comes, Hears, IsFirst, IsSeat, LeavesSeat, SeatState, TakesLine, has_turn};
+ghost use Rattle.warp_room.specs.Queues.{Comes, Hears, IsFirst, IsSeat, LeavesSeat, SeatState, TakesLine, has_turn, new_seat};
 ghost use Rattle.warp_room.specs.Queues.{lines_of, may_answer, may_turn};
 ghost use Rattle.warp_room.specs.declared.queues.Unheard.{Unheard};
 
@@ -107,8 +107,9 @@ impl Seat {
 
     /// The first line is answered, and waits no longer.
     fn drop_first(&mut self)
-        ensures { (said : Line) (rest : List Line) → self.old.lines ≡ said ∷ rest →
+        ensures some { (said : Line) (rest : List Line) → self.old.lines ≡ said ∷ rest →
             self.new ≡ record self.old { lines = rest } }
+        ensures none { self.old.lines ≡ [] → self.new ≡ self.old }
     {
         let _answered = self.lines.pop_front();
     }
@@ -184,17 +185,21 @@ pub(crate) struct Queues {
     seats: Vec<Seat>,
     next: usize,
     came: u64,
+    /// Lines wait only of seats from `low` on, before `high`, so that no others are looked at.
+    low: usize,
+    high: usize,
 }
 
 impl Model for Queues {
     ghost use Rattle.std.specs.Prelude.{◌≤◌, ◌<◌, ◌^◌, length};
-    ghost use Rattle.warp_room.specs.Queues.{QueuesState};
+    ghost use Rattle.warp_room.specs.Queues.{QueuesState, WaitWithin};
 
     ghost Value = { QueuesState };
 
     ghost view = { λ q. record { seats = q.seats.items; next = q.next; came = q.came } };
 
-    ghost invariant = { λ q. (q.next ≤ length q.seats.items) × (length q.seats.items < 2 ^ 32) };
+    ghost invariant = { λ q. (q.next ≤ length q.seats.items) × (length q.seats.items < 2 ^ 32)
+        × (q.high ≤ length q.seats.items) × WaitWithin q.low q.high q.seats.items };
 }
 
 impl Queues {
@@ -206,6 +211,8 @@ impl Queues {
             seats: Vec::new(alloc),
             next: 0,
             came: 0,
+            low: 0,
+            high: 0,
         }
     }
 
@@ -220,23 +227,38 @@ impl Queues {
         };
         let key = match free_seat(&self.seats) {
             Some(key) => {
-                self.seats[key].come(round);
+                self.take_seat(key, round);
                 key
             }
-            None => {
-                let key = self.seats.len();
-                if key >= MOST_SEATS {
-                    return Err(OutOfMemory);
-                }
-                self.seats.push(Seat::new(alloc, round))?;
-                key
-            }
+            None => self.add_seat(alloc, round)?,
         };
         self.came = came;
         Ok(ClientId {
             key: key as u32,
             round,
         })
+    }
+
+    /// A client has come, and has this seat.
+    fn take_seat(&mut self, key: usize, round: u64)
+        requires { key < length self.old.seats }
+        ensures { self.new ≡ record self.old { seats = slice_set self.old.seats key (new_seat round) } }
+    {
+        self.seats[key].come(round);
+    }
+
+    /// A client has come, and has a seat behind the others: its key. `Err` changes nothing.
+    fn add_seat(&mut self, alloc: Global, round: u64) -> Result<usize, OutOfMemory>
+        ensures ok { IfOk result (λ key. (key ≡ length self.old.seats) × (key < 2 ^ 32)
+            × (self.new ≡ record self.old { seats = self.old.seats ++ new_seat round ∷ [] })) }
+        ensures err { OnErr result (self.new ≡ self.old) }
+    {
+        let key = self.seats.len();
+        if key >= MOST_SEATS {
+            return Err(OutOfMemory);
+        }
+        self.seats.push(Seat::new(alloc, round))?;
+        Ok(key)
     }
 
     /// Whether the client has a seat.
@@ -287,7 +309,12 @@ impl Queues {
         if self.waiting(who) >= most as usize {
             return Err(Unheard::Full);
         }
-        self.seats[who.key as usize].hear(line)
+        let key = who.key as usize;
+        let low = low_with(self.low, self.high, key);
+        let high = high_with(self.low, self.high, key);
+        self.low = low;
+        self.high = high;
+        self.seats[key].hear(line)
     }
 
     /// Whose turn it is, and the oldest line of that client; `None` where no client has a line that may be answered.
@@ -315,10 +342,21 @@ impl Queues {
             × (key < length self.now.seats)) }
         ensures none { IfNone result ((key : ℕ) → has_turn all self.now.seats key ≡ false) }
     {
-        match first_between(&self.seats, all, self.next, self.seats.len()) {
+        match self.first_within(all, self.next, self.seats.len()) {
             Some(key) => Some(key),
-            None => first_between(&self.seats, all, 0, self.next),
+            None => self.first_within(all, 0, self.next),
         }
+    }
+
+    /// The first seat from `from` on, before `until`, whose client has a line that may be answered.
+    fn first_within(&self, all: bool, from: usize, until: usize) -> Option<usize>
+        requires { until ≤ length self.now.seats }
+        ensures found { IfSome result (λ key. (from ≤ key) × (key < until) × IsTrue (has_turn all self.now.seats key)
+            × ((other : ℕ) → from ≤ other → other < key → has_turn all self.now.seats other ≡ false)) }
+        ensures none { IfNone result ((other : ℕ) → from ≤ other → other < until →
+            has_turn all self.now.seats other ≡ false) }
+    {
+        first_between(&self.seats, all, from.max(self.low), until.min(self.high))
     }
 
     /// The first line of this client is answered: the next turn is looked for behind its seat.
@@ -327,10 +365,69 @@ impl Queues {
         ensures { (seat : SeatState) (said : Line) (rest : List Line) → IsSeat self.old.seats who seat →
             seat.lines ≡ said ∷ rest → TakesLine who seat rest self.old self.new }
     {
+        self.drop_line(who);
+        self.narrow();
+    }
+
+    /// The first line of this client is answered: the next turn is looked for behind its seat.
+    fn drop_line(&mut self, who: ClientId)
+        requires { (seat : SeatState) × IsSeat self.old.seats who seat }
+        ensures { (seat : SeatState) (said : Line) (rest : List Line) → IsSeat self.old.seats who seat →
+            seat.lines ≡ said ∷ rest → TakesLine who seat rest self.old self.new }
+    {
         let key = who.key as usize;
         self.seats[key].drop_first();
         self.next = key + 1;
     }
+
+    /// Seats of which no line waits are looked at no more.
+    fn narrow(&mut self)
+        ensures { self.new ≡ self.old }
+    {
+        self.low = first_waiting(&self.seats, self.low, self.high);
+    }
+}
+
+/// Where lines wait from, once one of this key does too.
+fn low_with(low: usize, high: usize, key: usize) -> usize
+    ensures { (result ≤ key) × (low < high → result ≤ low) }
+{
+    if low >= high { key } else { low.min(key) }
+}
+
+/// Up to where lines wait, once one of this key does too.
+fn high_with(low: usize, high: usize, key: usize) -> usize
+    requires { key < 2 ^ 32 }
+    ensures within { (key < result) × (low < high → high ≤ result) }
+    ensures most { (n : ℕ) → high ≤ n → key < n → result ≤ n }
+{
+    if low >= high {
+        key + 1
+    } else {
+        high.max(key + 1)
+    }
+}
+
+/// The first of these seats, from `low` on, of which a line waits; `high` where there is none before that.
+fn first_waiting(seats: &[Seat], low: usize, high: usize) -> usize
+    requires { high ≤ length seats.now }
+    ensures { (key : ℕ) (seat : SeatState) → slice_get seats.now key ≡ Some seat → low ≤ key → key < result →
+        key < high → seat.lines ≡ [] }
+{
+    for key in low..high {
+        if waits_at(seats, key) {
+            return key;
+        }
+    }
+    high
+}
+
+/// Whether a line waits of the seat of this key.
+fn waits_at(seats: &[Seat], key: usize) -> bool
+    requires { key < length seats.now }
+    ensures { result ≡ false → (seat : SeatState) → slice_get seats.now key ≡ Some seat → seat.lines ≡ [] }
+{
+    seats[key].first().is_some()
 }
 
 /// A seat that no client has.

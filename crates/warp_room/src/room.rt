@@ -53,10 +53,10 @@ pub enum Untold {
 /// A replica with what waits of its clients.
 #[derive(Drop)]
 pub struct Room<T: Timeline> {
-    replica: Replica<T>,
-    queues: Queues,
+    pub(crate) replica: Replica<T>,
+    pub(crate) queues: Queues,
     made: VecDeque<AnsweredLine>,
-    shown: Shown,
+    pub(crate) shown: Shown,
     most_lines: u32,
     most_answers: u32,
 }
@@ -300,7 +300,7 @@ impl<T: Timeline> Room<T> {
 
     /// Answers the oldest line of the client whose turn it is; or says why not, and changes nothing. `lacking` says that
     /// executing lacked memory: then a line that needs it is refused.
-    fn serve(&mut self, alloc: Global, lacking: bool) -> Option<Worked>
+    pub(crate) fn serve(&mut self, alloc: Global, lacking: bool) -> Option<Worked>
         requires { IsTrue lacking → (T.settled self.old.replica.timeline ≡ false)
             × T.refused self.old.replica.timeline }
         ensures served { IfNone result ((one : AnsweredLine) ×

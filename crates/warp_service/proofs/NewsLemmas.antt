@@ -9,5 +9,5 @@ pub apart : (first second : ℕ) (a b c d : NewsOfPeer) (news other : PeerNews) 
     TellsNews first (Some (record { 0 = news; 1 = left })) a b → c.told_at ≡ b.told_at →
     TellsNews second (Some (record { 0 = other; 1 = more })) c d → later first news_pause ≤ second
 apart first second a b c d news other left more one same two =
-    let at : c.told_at ≡ Some first = same ∙ ap (λ (n : NewsOfPeer). n.told_at) one.3 in
-    subst (λ told. behind_last told ≤ second) at two.2
+    let at : c.told_at ≡ Some first = same ∙ ap (λ (n : NewsOfPeer). n.told_at) one.1 in
+    subst (λ told. behind_last told ≤ second) at two.0

@@ -156,8 +156,8 @@ heard_kept p p' kept broken e =
 pub heard_at : (p : PeerState) (c : Contact) → Stays p.contact c → HearsOn p (record p { contact = c })
 heard_at p c stays = hears_nothing p (record p { contact = c }) refl refl stays refl refl refl
 
-pub stays_moment : (c c' : Contact) (now : ℕ) → c' ≡ record c { heard = now } → Stays c c'
-stays_moment c c' now e = record {
+pub stays_moment : (c c' : Contact) (heard : ℕ) → c' ≡ record c { heard = heard } → Stays c c'
+stays_moment c c' heard e = record {
   number = ap (λ (x : Contact). x.number) e;
   way = ap (λ (x : Contact). x.way) e;
   losses = ap (λ (x : Contact). x.losses) e;

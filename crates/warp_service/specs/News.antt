@@ -1,5 +1,5 @@
 -- What an operator is told of a peer, and when.
-use Rattle.std.specs.Prelude.{◌≡◌, ◌≢◌, ◌⊎◌, ℕ, ◌+◌, ◌<◌, ◌≤◌, Bool, true, false, min, is_some, Option, Some, None, if◌then◌else◌}
+use Rattle.std.specs.Prelude.{◌≡◌, ◌≢◌, ◌⊎◌, ℕ, ◌+◌, ◌<◌, ◌≤◌, Bool, true, false, min, is_some, not, ◌||◌, ◌==◌, Option, Some, None, if◌then◌else◌}
 use Rattle.warp_hub.specs.declared.follow.PeerEvent.{PeerEvent}
 use Rattle.warp_hub.specs.declared.follow.PeerEvent.TheVariants.{Found, Refused}
 use Rattle.warp_service.specs.declared.news.NewsOfPeer.{NewsOfPeer}
@@ -35,32 +35,45 @@ is_reason event = true
 abbrev pub with_start : Bool → NewsOfPeer → NewsOfPeer
 with_start start n = if start then record n { is_found = true; is_loss_noted = false; reason = None } else n
 
--- What its follower says: a reason why it is not followed, or that it is, or that a record of it was refused.
+-- whether it says that a record was refused
+abbrev pub is_refusal : PeerEvent → Bool
+is_refusal (Refused place refusal) = true
+is_refusal event = false
+
+-- What its follower says: a reason why it is not followed, or that it is, or that a record of it was refused, which waits
+-- behind the others that were, where there is room.
 abbrev pub WithEvent : PeerEvent → NewsOfPeer → NewsOfPeer → Type 0
 WithEvent event n n' =
     (is_reason event ≡ true → WithReason event n n')
-    × (is_reason event ≡ false → n' ≡ with_start (is_start event) (noted (Event event) n))
+    × (is_reason event ≡ false → (n' ≡ with_start (is_start event) (noted (Event event) n))
+    ⊎ ((is_refusal event ≡ true) × (n' ≡ record n { refused = n'.refused })))
 
 -- what the loss of a connection is called
 abbrev pub loss_of : Bool → PeerNews
-loss_of found = if found then Lost else Unreached
+loss_of there = if there then Lost else Unreached
 
--- its connection is lost, which is no news where a reason was told
-abbrev pub with_loss : NewsOfPeer → NewsOfPeer
-with_loss n = record (if n.is_loss_noted then n else noted (loss_of n.is_found) n) { is_loss_noted = true; is_found = false }
+-- its connection is lost, which was there, or none could be made: no news where a reason was told
+abbrev pub with_loss : Bool → NewsOfPeer → NewsOfPeer
+with_loss there n = record (if n.is_loss_noted then n else noted (loss_of there) n) { is_loss_noted = true; is_found = false }
 
 -- the moment behind the line that was told then
 abbrev pub behind_last : Option ℕ → ℕ
 behind_last None = 0
 behind_last (Some told) = later told news_pause
 
+-- whether something waits to be told
+abbrev pub waits_some : NewsOfPeer → Bool
+waits_some n = is_some n.waits || not (n.refused.count == 0)
+
 -- the moment at which what waits is told
 abbrev pub news_moment : NewsOfPeer → ℕ
-news_moment n = if is_some n.waits then behind_last n.told_at else never
+news_moment n = if waits_some n then behind_last n.told_at else never
 
 -- What is told now: what waits, with how many were left out, if its moment has come; else nothing changes.
 abbrev pub TellsNews : ℕ → Option (PeerNews × ℕ) → NewsOfPeer → NewsOfPeer → Type 0
-TellsNews now None n n' = (n' ≡ n) × ((n.waits ≡ None) ⊎ (now < news_moment n))
+TellsNews now None n n' = (n' ≡ n) × ((waits_some n ≡ false) ⊎ (now < news_moment n))
 TellsNews now (Some (news, left)) n n' =
-    (n.waits ≡ Some news) × (n.left_out ≡ left) × (behind_last n.told_at ≤ now)
-    × (n' ≡ record n { waits = None; left_out = 0; told_at = Some now })
+    (behind_last n.told_at ≤ now)
+    × (n' ≡ record n { refused = n'.refused; waits = n'.waits; left_out = n'.left_out; told_at = Some now })
+    × (((n.waits ≡ Some news) × (n.left_out ≡ left) × (n'.waits ≡ None) × (n'.left_out ≡ 0))
+    ⊎ ((left ≡ 0) × (n'.waits ≡ n.waits) × (n'.left_out ≡ n.left_out)))

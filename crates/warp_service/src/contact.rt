@@ -253,11 +253,13 @@ impl Contact {
         }
     }
 
-    /// Bytes of it came.
-    pub fn note_bytes(&mut self, now: u64)
-        ensures { self.new ≡ record self.old { heard = now } }
+    /// Bytes of it came: whether they end a line. One that ends none is silent.
+    pub fn note_bytes(&mut self, has_line: bool, now: u64)
+        ensures { self.new ≡ record self.old { heard = if has_line then now else self.old.heard } }
     {
-        self.heard = now;
+        if has_line {
+            self.heard = now;
+        }
     }
 
     /// It was heard: whether it brought a record.

@@ -20,7 +20,7 @@ pub use laws::{
     calls_move, limit_is_said, limit_only_grows, lines_apart, pauses_hold, places_are_kept,
 };
 pub use lengths::{Lengths, Tells};
-pub use news::{NewsOfPeer, PeerNews};
+pub use news::{NewsOfPeer, PeerNews, RefusedRecords};
 pub use notes::{JournalFault, Named, Note, NoteText};
 pub use peer::Peer;
 pub use timers::Timers;

@@ -1,7 +1,7 @@
 //! What an operator is told of a peer: a line each second at most. Of what comes faster the newest is told when the second
-//! is over, with how many were left out.
-ghost use Rattle.std.specs.Prelude.{◌≡◌, ◌≢◌, Option, Some, None, true, false};
-ghost use Rattle.warp_service.specs.News.{TellsNews, WithEvent, WithReason, is_reason, is_start, news_moment, noted, with_loss};
+//! is over, with how many were left out; but each record of it that was refused is told, as it comes once for each reason.
+ghost use Rattle.std.specs.Prelude.{◌≡◌, ◌≢◌, ◌==◌, Option, Some, None, true, false};
+ghost use Rattle.warp_service.specs.News.{TellsNews, WithEvent, WithReason, is_reason, is_refusal, is_start, news_moment, noted, with_loss};
 
 use crate::contact::{NEVER, later};
 use warp_hub::PeerEvent;
@@ -14,15 +14,67 @@ const PAUSE: u64 = 1_000_000;
 pub enum PeerNews {
     /// What its follower says.
     Event(PeerEvent),
-    /// The connection to it was lost, though it was followed.
+    /// The connection to it was lost.
     Lost,
-    /// A connection could not be made, or was lost before it was followed.
+    /// A connection could not be made.
     Unreached,
+}
+
+/// So many refused records wait to be told at most: there are no more reasons.
+const MOST_REFUSED: usize = 16;
+
+/// Records of a peer that were refused, in the order in which they are told: the first so many of these.
+#[derive(Clone, Copy, Debug)]
+pub struct RefusedRecords {
+    events: [PeerEvent; MOST_REFUSED],
+    count: usize,
+}
+
+impl RefusedRecords {
+    /// None.
+    fn new() -> RefusedRecords {
+        RefusedRecords {
+            events: [PeerEvent::Untold; MOST_REFUSED],
+            count: 0,
+        }
+    }
+
+    /// Whether one more may wait.
+    fn has_room(&self) -> bool {
+        self.count < MOST_REFUSED
+    }
+
+    /// This one waits behind the others, where there is room.
+    fn push(&mut self, event: PeerEvent) {
+        if self.count < MOST_REFUSED {
+            self.events[self.count] = event;
+            self.count += 1;
+        }
+    }
+
+    /// Takes the first off.
+    fn pop(&mut self) -> PeerEvent {
+        let first = self.events[0];
+        for at in 1..MOST_REFUSED {
+            self.events[at - 1] = self.events[at];
+        }
+        self.count = self.count.saturating_sub(1);
+        first
+    }
+
+    /// Whether there is none.
+    fn is_empty(&self) -> bool
+        ensures { result ≡ (self.now.count == 0) }
+    {
+        self.count == 0
+    }
 }
 
 /// What is to be told of a peer.
 #[derive(Clone, Copy, Debug)]
 pub struct NewsOfPeer {
+    /// Records of it that were refused, which are told first.
+    pub refused: RefusedRecords,
     /// What is told next.
     pub waits: Option<PeerNews>,
     /// How many were left out in its favour.
@@ -40,9 +92,10 @@ pub struct NewsOfPeer {
 impl NewsOfPeer {
     /// Nothing came of it.
     pub fn new() -> NewsOfPeer
-        ensures { result ≡ record { waits = None; left_out = 0; told_at = None; is_found = false; reason = None; is_loss_noted = false } }
+        ensures { result ≡ record { refused = result.refused; waits = None; left_out = 0; told_at = None; is_found = false; reason = None; is_loss_noted = false } }
     {
         NewsOfPeer {
+            refused: RefusedRecords::new(),
             waits: None,
             left_out: 0,
             told_at: None,
@@ -70,6 +123,10 @@ impl NewsOfPeer {
             self.note_reason(event);
             return;
         }
+        if is_refusal(event) && self.refused.has_room() {
+            self.refused.push(event);
+            return;
+        }
         self.note(PeerNews::Event(event));
         if is_start(event) {
             self.is_found = true;
@@ -89,12 +146,12 @@ impl NewsOfPeer {
         self.is_loss_noted = true;
     }
 
-    /// Its connection is lost, or none could be made.
-    pub fn note_loss(&mut self)
-        ensures { self.new ≡ with_loss self.old }
+    /// Its connection is lost, which was there, or none could be made.
+    pub fn note_loss(&mut self, was_there: bool)
+        ensures { self.new ≡ with_loss was_there self.old }
     {
         if !self.is_loss_noted {
-            let news = if self.is_found {
+            let news = if was_there {
                 PeerNews::Lost
             } else {
                 PeerNews::Unreached
@@ -116,7 +173,7 @@ impl NewsOfPeer {
     pub fn next_moment(&self) -> u64
         ensures { result ≡ news_moment self.now }
     {
-        if self.waits.is_none() {
+        if self.waits.is_none() && self.refused.is_empty() {
             return NEVER;
         }
         match self.told_at {
@@ -131,6 +188,11 @@ impl NewsOfPeer {
     {
         if self.next_moment() > now {
             return None;
+        }
+        if !self.refused.is_empty() {
+            let refused = self.refused.pop();
+            self.told_at = Some(now);
+            return Some((PeerNews::Event(refused), 0));
         }
         let news = self.waits?;
         let left_out = self.left_out;
@@ -152,6 +214,21 @@ fn is_reason(event: PeerEvent) -> bool
         | PeerEvent::Untold
         | PeerEvent::Strange
         | PeerEvent::NoMemory => true,
+    }
+}
+
+/// Whether it says that a record was refused.
+fn is_refusal(event: PeerEvent) -> bool
+    ensures { result ≡ is_refusal event }
+{
+    match event {
+        PeerEvent::Refused { .. } => true,
+        PeerEvent::Found { .. }
+        | PeerEvent::OtherProgram
+        | PeerEvent::NotAllowed
+        | PeerEvent::Untold
+        | PeerEvent::Strange
+        | PeerEvent::NoMemory => false,
     }
 }
 

@@ -195,7 +195,7 @@ impl Peer {
     fn forget(&mut self, now: u64)
         ensures { self.new ≡ forgotten now self.old }
     {
-        self.news.note_loss();
+        self.news.note_loss(self.contact.is_open());
         self.contact.lose(now);
         self.follower.lose();
         self.said.clear();
@@ -250,7 +250,7 @@ impl Peer {
         if !(self.contact.is_number(number) && self.contact.is_open()) {
             return;
         }
-        self.contact.note_bytes(now);
+        self.contact.note_bytes(has_line(bytes), now);
         self.keep(bytes);
         self.hear_kept();
         self.settle(now);
@@ -412,6 +412,11 @@ impl Peer {
         count
     }
 
+    /// Whether bytes of the connection of this number are wanted.
+    pub fn wants(&self, number: u64) -> bool {
+        self.contact.is_number(number) && self.contact.is_open() && self.contact.is_wanted()
+    }
+
     /// The bytes to be sent by the connection of this number; none of any other.
     pub fn output(&self, number: u64) -> &[u8]
         ensures { result.now ≡ (if is_number number self.now.contact then self.now.said else []) }
@@ -483,6 +488,11 @@ fn drop_front(bytes: &mut Vec<u8>, count: usize)
 {
     let count = count.min(bytes.len());
     let _ = bytes.drain(..count);
+}
+
+/// Whether a line ends among these bytes.
+fn has_line(bytes: &[u8]) -> bool {
+    bytes.contains(&b'\n')
 }
 
 /// How many bytes the line at the front of these has, with its line feed; none where it has none.

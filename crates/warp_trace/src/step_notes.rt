@@ -93,6 +93,12 @@ impl<L: Ledger> StepNotes<L> {
         }
     }
 
+    /// The names by which it notes.
+    pub fn into_labels(self) -> Labels {
+        let StepNotes { labels, .. } = self;
+        labels
+    }
+
     /// Says what the last tag was that was done before the next steps, if there was one.
     pub fn begin(&mut self, stood: Option<Tag>) {
         self.stood = stood;

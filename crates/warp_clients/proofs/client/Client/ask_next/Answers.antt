@@ -1,10 +1,10 @@
-use Rattle.std.proofs.Common.{◌≡◌, ◌++◌, false, None, refl, sym, subst, inr}
+use Rattle.std.proofs.Common.{◌≡◌, ◌++◌, false, None, refl, sym, subst}
 use Rattle.warp_record.specs.Lines.{piece_of}
 use Rattle.warp_web.specs.Lines.{Passed}
 use Rattle.warp_web.specs.Wire.{Passes, line_in}
 use Rattle.warp_web.specs.declared.wire.Said.{Said}
 use Rattle.warp_clients.specs.Client.{ClientState}
-use Rattle.warp_clients.proofs.At.{keeps_line}
+use Rattle.warp_clients.proofs.At.{keeps_line, rests_line}
 use Rattle.warp_clients.proofs.client.Client.ask_next.Goals as goal
 
 pub returns-in-Line : goal.returns-in-Line
@@ -24,4 +24,5 @@ pub returns-in-End : goal.returns-in-End
 returns-in-End c = rw (← c.self.view_is) (subst (λ (x : ClientState). x.gone ≡ false) (sym c.self.view_is) c.requires.0, subst (λ (x : Said). (p : Passed) → Passes p c.self.inside.wire → Passes (record p { said = p.said ++ line_in x }) c.said.new.self) c.in-End.is c.in-Ok.ensures.passes, refl)
 
 pub returns-in-Nothing : goal.returns-in-Nothing
-returns-in-Nothing c = rw (← c.self.view_is) (inr (subst (λ (x : ClientState). x.gone ≡ false) (sym c.self.view_is) c.requires.0, subst (λ (x : Said). (p : Passed) → Passes p c.self.inside.wire → Passes (record p { said = p.said ++ line_in x }) c.said.new.self) c.in-Nothing.is c.in-Ok.ensures.passes, refl))
+returns-in-Nothing c =
+    rw (← c.self.view_is) (rests_line c.args.facts.now c.args.is_failing c.rest.result (record { round = c.self.inside.round; here = c.self.inside.here; wire = c.self.inside.wire; rights = c.self.inside.rights; slot = c.self.inside.slot; owed = c.self.inside.owed; out = c.self.inside.out.items; wrong = c.self.inside.wrong; over = c.self.inside.over; gone = c.self.inside.gone }) c.rest.new.self c.said.new.self (subst (λ (x : ClientState). x.gone ≡ false) (sym c.self.view_is) c.requires.0) c.rest.ensures.quiet (subst (λ (x : Said). (p : Passed) → Passes p c.self.inside.wire → Passes (record p { said = p.said ++ line_in x }) c.said.new.self) c.in-Nothing.is c.in-Ok.ensures.passes) c.rest.ensures.same)

@@ -22,7 +22,7 @@ returns-clause-hears c =
       subst (λ (s : PeerState). HearsOn s c.hear_kept.new.self) c.self.view_is
           (hears_joined p c.keep.new.self c.hear_kept.new.self
           (heard_came p c.keep.new.self c.note_bytes.new.self c.keep.new.self.kept c.keep.new.self.broken c.keep.ensures
-          (stays_moment i.contact c.note_bytes.new.self c.args.now c.note_bytes.ensures)) c.hear_kept.ensures),
+          (stays_moment i.contact c.note_bytes.new.self _ c.note_bytes.ensures)) c.hear_kept.ensures),
       c.settle.ensures,
     )
 
