@@ -5,6 +5,7 @@ import errno
 import os
 import re
 import resource
+import shutil
 import socket
 import subprocess
 import tempfile
@@ -122,9 +123,16 @@ def tokens_of_peers():
 
 
 def little_memory():
-    """In an address space that is too small a host ends with its status, and tells why, also behind its line that it is ready."""
+    """In an address space that is too small a host ends with its status, and tells why, also behind its line that it is ready. Its journal
+    has records, so that there is one in which they do not fit."""
     ends = collections.Counter()
     with tempfile.TemporaryDirectory() as folder:
+        kept = Path(folder, "kept")
+        with Hosted("--journal", kept) as host:
+            talk = host.talk()
+            talk.send("".join(f"event 0 {at % 100} 0 0 {at}\n" for at in range(20_000)).encode())
+            for _ in range(20_000):
+                talk.line()
         for space in range(8, 72):
             def prepare():
                 resource.setrlimit(resource.RLIMIT_AS, (space << 19, space << 19))
@@ -132,7 +140,8 @@ def little_memory():
             if subprocess.run([hosting.PROGRAM, "--version"], capture_output=True, timeout=60, preexec_fn=prepare).returncode != 0:
                 # The system cannot even load it.
                 continue
-            more = ("--journal", Path(folder, f"{space}.journal"), "--peer", "localhost:1")
+            journal = shutil.copy(kept, Path(folder, f"{space}.journal"))
+            more = ("--journal", journal, "--peer", "localhost:1")
             words = [hosting.PROGRAM, "host", TWICE, "--listen", f"{HOST}:0", "--until-input-ends", *more]
             run = subprocess.run(words, stdin=subprocess.DEVNULL, capture_output=True, text=True, timeout=60, preexec_fn=prepare)
             last = run.stderr.splitlines()[-2:]

@@ -1,5 +1,2 @@
-pub mod Held
 pub mod Listening
-pub mod Names
-pub mod Speech
 pub mod Telling

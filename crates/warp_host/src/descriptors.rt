@@ -4,7 +4,7 @@ ghost use Rattle.std.specs.Prelude.{◌≤◌};
 
 use libc::types::rlimit;
 
-/// So many descriptors are kept for what is no client: the standard streams, the listener, what the loop waits by, the
+/// So many descriptors are kept for what is no client: the standard streams, the listener, what the worker waits by, the
 /// spare one, and files that are read.
 const KEPT: u64 = 16;
 

@@ -20,21 +20,18 @@ pub(crate) enum Arrival {
     Nobody,
 }
 
-/// The listener, and a spare descriptor, a second one of the loop's events: it is let go of to refuse who comes when
+/// The listener, and a spare descriptor, a second one of the worker's events: it is let go of to refuse who comes when
 /// there is no other.
 #[derive(Drop)]
 pub(crate) struct Entrance {
-    pub(crate) listener: TcpListener,
+    listener: TcpListener,
     spare: Option<Registry>,
     /// Connections may be waiting.
     pub(crate) may_accept: bool,
     /// Connections wait that could not even be refused: they are looked for again later.
-    pub(crate) is_stuck: bool,
-    /// How many were refused since it was told, for want of room and of descriptors.
-    pub(crate) turned_away: u64,
+    is_stuck: bool,
+    /// How many were refused for want of descriptors.
     pub(crate) undescribed: u64,
-    /// How many were refused in all.
-    pub(crate) refused: u64,
 }
 
 /// Whether the error says that there is no descriptor left.
@@ -53,10 +50,14 @@ impl Entrance {
             spare: poll.registry().try_clone().ok(),
             may_accept: true,
             is_stuck: false,
-            turned_away: 0,
             undescribed: 0,
-            refused: 0,
         }
+    }
+
+    /// Looks again for connections that could not even be refused.
+    pub(crate) fn try_again(&mut self) {
+        self.may_accept |= self.is_stuck;
+        self.is_stuck = false;
     }
 
     /// Looks for the next connection.
@@ -84,17 +85,10 @@ impl Entrance {
         self.spare = poll.registry().try_clone().ok();
         if was_there {
             self.undescribed = self.undescribed.saturating_add(1);
-            self.refused = self.refused.saturating_add(1);
         } else {
             self.may_accept = false;
             self.is_stuck = true;
         }
         Arrival::Lost
-    }
-
-    /// A connection was refused since there are as many clients as there may be.
-    pub(crate) fn turn_away(&mut self) {
-        self.turned_away = self.turned_away.saturating_add(1);
-        self.refused = self.refused.saturating_add(1);
     }
 }

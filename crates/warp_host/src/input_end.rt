@@ -1,6 +1,6 @@
 //! Whether standard input has ended.
 
-use crate::serving::INPUT;
+use crate::worker::INPUT;
 use mio::unix::SourceFd;
 use mio::{Interest, Poll};
 

@@ -5,7 +5,8 @@ ghost use Rattle.warp_host.specs.Listening.{MayListen};
 
 use crate::journal_file::OpenJournal;
 use std::net::IpAddr;
-use warp_hub::{PeerToken, Tokens};
+use warp_hub::Tokens;
+use warp_machine::PeerAt;
 
 /// The most clients at a time, where no number is given.
 pub const DEFAULT_CLIENTS: u32 = 1_024;
@@ -15,15 +16,6 @@ pub const MOST_CLIENTS: u32 = 15_000;
 
 /// The most peers.
 pub const MOST_PEERS: usize = 64;
-
-/// A peer: where it is, and what it is told.
-#[derive(Drop)]
-pub struct PeerAt {
-    /// `HOST:PORT`.
-    pub address: String,
-    /// The token that it wants, if it wants one.
-    pub token: Option<PeerToken>,
-}
 
 /// What a host is asked to do, beside its program and the texts on it.
 #[derive(Drop)]

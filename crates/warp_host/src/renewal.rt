@@ -1,7 +1,7 @@
 //! A journal that could not be written is written anew: the whole log, to a fresh file that takes the old one's place.
 //!
 //! A sync that answers well proves nothing of what failed before it, so nothing of the old file is used again. The
-//! executor hands the log from its beginning. Until the fresh file is on the disk nothing is told of more of the log than
+//! worker hands the log from its beginning. Until the fresh file is on the disk nothing is told of more of the log than
 //! the old one was written for, with `always` synced, and clients' records are refused.
 
 use crate::fresh_file::FreshFiles;
@@ -19,7 +19,7 @@ use warp_record::Record;
 /// How long it waits before it tries, in milliseconds.
 const PAUSE: u64 = 1_000;
 
-/// How long it waits for the executor, in milliseconds, before it looks again at what was handed.
+/// How long it waits for the worker, in milliseconds, before it looks again at what was handed.
 const MOMENT: u64 = 1;
 
 /// So many records are written at once.
@@ -37,7 +37,7 @@ impl<'a> Scribe<'a> {
     /// Tries each second to write the journal anew, until that is done; whether it is, before this thread is to end.
     pub(crate) fn renew<X: Wait + Clock + Eprint + FreshFiles>(&mut self, rt: &X) -> bool {
         self.durable.note_failing(true);
-        self.bells.wake_loop();
+        self.bells.wake_worker();
         let mut told = self.reason();
         operator::tell_journal_fails(rt, told);
         // The fresh file stays while this goes on: a host that begins beside it trusts the old one no more.
@@ -54,7 +54,7 @@ impl<'a> Scribe<'a> {
             }
         }
         self.durable.note_failing(false);
-        self.bells.wake_loop();
+        self.bells.wake_worker();
         operator::tell_journal_renewed(rt, self.keeper.len());
         true
     }
@@ -130,18 +130,18 @@ impl<'a> Scribe<'a> {
             match self.next_handed() {
                 Some(record) => take_in_batches(fresh, &record, second)?,
                 None if fresh.len() >= least => return Ok(()),
-                None => self.wait_for_executor(rt)?,
+                None => self.wait_for_worker(rt)?,
             }
         }
         Ok(())
     }
 
-    /// Waits a moment for the executor. `Err` where this thread is to end.
-    fn wait_for_executor<X: Wait>(&mut self, rt: &X) -> Result<(), Failed> {
+    /// Waits a moment for the worker. `Err` where this thread is to end.
+    fn wait_for_worker<X: Wait>(&mut self, rt: &X) -> Result<(), Failed> {
         if self.durable.is_over() {
             return Err(Failed);
         }
-        self.bells.wake_executor();
+        self.bells.wake_worker();
         self.durable.sleep(rt, Duration::from_millis(MOMENT));
         Ok(())
     }

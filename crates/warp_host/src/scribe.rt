@@ -1,4 +1,4 @@
-//! The thread that writes the journal: neither the loop nor the executor waits for a disk, and it waits for no sync.
+//! The thread that writes the journal: the worker waits for no disk, and this thread waits for no sync.
 //!
 //! What is handed is written at once, and may be told then, or with `always` once it is synced, for which another thread
 //! is asked. Where the disk fails, nothing of the file is trusted: the log is written anew (`renewal`).
@@ -87,7 +87,7 @@ impl<'a> Scribe<'a> {
     fn let_written(&mut self, written: Written) {
         self.durable.note_written(written);
         if self.when != SyncWhen::Always {
-            self.bells.wake_loop();
+            self.bells.wake_worker();
         }
     }
 
@@ -148,7 +148,7 @@ impl<'a> Scribe<'a> {
             Ok(count) => {
                 self.look(rt, now)?;
                 self.durable.note_synced(count);
-                self.bells.wake_loop();
+                self.bells.wake_worker();
                 Ok(true)
             }
             Err(error) => {
@@ -179,8 +179,8 @@ impl<'a> Scribe<'a> {
         let synced = self.take_synced(rt, now)?;
         let taken = self.take_all(second)?;
         if taken >= RING_ROOM {
-            // The executor may have found no room.
-            self.bells.wake_executor();
+            // The worker may have found no room.
+            self.bells.wake_worker();
         }
         if taken > 0 {
             self.durable.note_taken(self.keeper.len());
@@ -252,6 +252,6 @@ impl<'a> Scribe<'a> {
         }
         self.durable.fail();
         self.durable.end_syncer();
-        self.bells.wake_loop();
+        self.bells.wake_worker();
     }
 }

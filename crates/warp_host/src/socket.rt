@@ -1,91 +1,75 @@
-//! A socket of the loop, and what is known of it: an event comes only at a change.
+//! A socket of the worker, and what is known of it: an event comes only at a change.
 
 ghost use Rattle.std.specs.Prelude.{◌≤◌, IfOk, length};
 
+use mio::event::Event;
 use mio::net::TcpStream;
 use std::io::{ErrorKind, Read, Write};
 use std::net::Shutdown;
 
-/// A connection that is gone, or that is to go.
+/// A connection that is gone.
 #[derive(Clone, Copy, Debug, PartialEq, Eq)]
 pub(crate) struct Gone;
 
 /// A connection, and what a call of it would find.
 #[derive(Drop)]
 pub(crate) struct Socket {
-    pub(crate) stream: TcpStream,
+    stream: TcpStream,
     /// There may be bytes to read, or their end.
-    pub(crate) may_read: bool,
+    may_read: bool,
     /// There may be room to write.
-    pub(crate) may_write: bool,
+    may_write: bool,
     /// The other end closed its way: a read that fills no buffer is not the last.
-    pub(crate) is_closed: bool,
-    /// Nothing more is read: the end of what comes was, or the host ends.
-    pub(crate) has_ended: bool,
+    is_closed: bool,
     /// The end of what comes was read.
-    pub(crate) is_at_end: bool,
-    /// Nothing more is read, since the host ends.
-    pub(crate) is_stopped: bool,
+    is_at_end: bool,
 }
 
 impl Socket {
-    /// A new connection.
+    /// A new connection. There may be something at once.
     pub(crate) fn new(stream: TcpStream) -> Socket {
         Socket {
             stream,
-            may_read: false,
+            may_read: true,
             may_write: true,
             is_closed: false,
-            has_ended: false,
             is_at_end: false,
-            is_stopped: false,
         }
     }
 
-    /// The first byte that is to be read, if it came. It stays to be read.
-    pub(crate) fn first(&mut self) -> Result<Option<u8>, Gone> {
-        let mut byte = [0];
-        if self.has_ended || !self.may_read {
-            return Ok(None);
-        }
-        match self.stream.peek(&mut byte) {
-            Ok(0) => {
-                self.end_reading();
-                Ok(None)
-            }
-            Ok(_) => Ok(Some(byte[0])),
-            Err(error) => {
-                self.read_failed(error.kind())?;
-                Ok(None)
-            }
-        }
+    /// Notes an event.
+    pub(crate) fn note(&mut self, event: &Event) {
+        let is_closed = event.is_read_closed() || event.is_error();
+        self.may_read |= event.is_readable() || is_closed;
+        self.may_write |= event.is_writable();
+        self.is_closed |= is_closed;
     }
 
-    /// Reads once, if there may be something. No byte: there is none now, or `has_ended` says that none comes.
+    /// Whether there may be bytes to read, or their end.
+    pub(crate) fn may_read(&self) -> bool {
+        self.may_read && !self.is_at_end
+    }
+
+    /// Whether there may be room to write.
+    pub(crate) fn may_write(&self) -> bool {
+        self.may_write
+    }
+
+    /// Whether the end of what comes was read.
+    pub(crate) fn is_at_end(&self) -> bool {
+        self.is_at_end
+    }
+
+    /// Reads once, if there may be something. No byte: there is none now, or none comes any more.
     pub(crate) fn read(&mut self, buffer: &mut [u8]) -> Result<usize, Gone>
         ensures { IfOk result (λ count. count ≤ length buffer.new) }
     {
-        if self.has_ended || !self.may_read || buffer.is_empty() {
+        if !self.may_read() || buffer.is_empty() {
             return Ok(0);
         }
-        self.read_once(buffer)
-    }
-
-    /// Reads once, also where nothing more is to be read: what comes is dropped.
-    pub(crate) fn drop_input(&mut self, buffer: &mut [u8]) -> Result<usize, Gone> {
-        if self.is_at_end || !self.may_read || buffer.is_empty() {
-            return Ok(0);
-        }
-        self.read_once(buffer)
-    }
-
-    /// Reads once.
-    fn read_once(&mut self, buffer: &mut [u8]) -> Result<usize, Gone>
-        ensures { IfOk result (λ count. count ≤ length buffer.new) }
-    {
         match self.stream.read(buffer) {
             Ok(0) => {
-                self.end_reading();
+                self.is_at_end = true;
                 Ok(0)
             }
             Ok(count) => {
@@ -97,12 +81,6 @@ impl Socket {
                 Ok(0)
             }
         }
-    }
-
-    /// The end of what comes was read.
-    fn end_reading(&mut self) {
-        self.has_ended = true;
-        self.is_at_end = true;
     }
 
     /// A read failed so: it is made again later, or the connection is gone.
@@ -141,5 +119,13 @@ impl Socket {
     /// Says that nothing more is written, so that the other end reads all that was.
     pub(crate) fn end_writing(&mut self) {
         let _ = self.stream.shutdown(Shutdown::Write);
+    }
+
+    /// Whether a connection that was begun is made; `Gone` where it could not be.
+    pub(crate) fn is_made(&self) -> Result<bool, Gone> {
+        match self.stream.take_error() {
+            Ok(None) => Ok(self.stream.peer_addr().is_ok()),
+            Ok(Some(_)) | Err(_) => Err(Gone),
+        }
     }
 }

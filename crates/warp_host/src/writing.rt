@@ -1,6 +1,5 @@
 //! The journal's thread and the one that syncs: what they are made of, their start and their end.
 
-use crate::bells::Bells;
 use crate::durable::{Durable, Tells};
 use crate::fresh_file::FreshFiles;
 use crate::handing::{Handing, RING_ROOM};
@@ -8,19 +7,13 @@ use crate::hosting::{HostFault, started};
 use crate::journal_file::OpenJournal;
 use crate::scribe::Scribe;
 use crate::syncing::{SYNCS_ROOM, Syncer, Syncs};
+use crate::worker::Shared;
 use rtrb::RingBuffer;
 use std::alloc::{AllocError, Global};
 use std::io::Eprint;
 use std::sync::Wait;
 use std::thread::{JoinHandle, Scope, Threads};
 use std::time::{Clock, Duration};
-
-/// What threads share beside their rings.
-#[derive(Clone, Copy)]
-pub(crate) struct Shared<'a> {
-    pub(crate) bells: &'a Bells,
-    pub(crate) durable: &'a Durable,
-}
 
 /// The threads of a journal.
 #[derive(Drop)]
@@ -37,12 +30,12 @@ pub(crate) fn durable_of(journal: &Option<OpenJournal>) -> Durable {
     }
 }
 
-/// The executor's way to the journal's thread, and what that and the one that syncs hold.
+/// The worker's way to the journal's thread, and what that and the one that syncs hold.
 pub(crate) fn make_writers<'a>(
     alloc: Global,
     journal: Option<OpenJournal>,
     shared: Shared<'a>,
-) -> Result<(Option<Handing<'a>>, Option<Writers<'a>>), AllocError> {
+) -> Result<(Option<Handing>, Option<Writers<'a>>), AllocError> {
     let Shared { bells, durable } = shared;
     let Some(journal) = journal else {
         return Ok((None, None));
@@ -57,7 +50,7 @@ pub(crate) fn make_writers<'a>(
     let (ring, handed) = RingBuffer::new(alloc, RING_ROOM)?;
     let (asking, jobs) = RingBuffer::new(alloc, SYNCS_ROOM)?;
     let (ending, done) = RingBuffer::new(alloc, SYNCS_ROOM)?;
-    let handing = Handing::new(ring, durable, keeper.len());
+    let handing = Handing::new(alloc, ring, keeper.len());
     let syncer = Syncer {
         disk: handle,
         jobs,

@@ -6,7 +6,7 @@ ghost use Rattle.warpd.specs.Outcome.{failures_with};
 use std::alloc::Global;
 use std::marker::Brand;
 use std::sync::ledger::{Blank, Ledger};
-use warp_host::Progress;
+use warp_host::LastDone;
 use warp_line::Timeline;
 use warp_replica::Replica;
 use warp_run::Warp;
@@ -28,7 +28,7 @@ impl Stepping for Warp {
 /// Tells how far a timeline is done whose steps can be printed.
 pub(crate) struct LastRow;
 
-impl<T: Stepping> Progress<T> for LastRow {
+impl<T: Stepping> LastDone<T> for LastRow {
     fn last_done(timeline: &T) -> Option<Tag> {
         timeline.last_done()
     }

@@ -1,3 +1,0 @@
-pub mod FramedTexts
-pub mod JoinedTexts
-pub mod SentExecutors

@@ -1,5 +1,0 @@
--- The ledger of the steps is the new one.
-use Rattle.warp_host.proofs.executor.Executor.run.Given as goal
-
-abbrev pub ghosts-run_counted : goal.ghosts-run_counted
-ghosts-run_counted g a = record { name = a.blank.name; parts = a.blank.parts }

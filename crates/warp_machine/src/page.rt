@@ -1,0 +1,96 @@
+//! What is pushed, as text: lines with their marks.
+
+use arrayvec::ArrayVec;
+use itoa::Buffer;
+use std::alloc::{AllocError, Global};
+
+/// What stands in front of a line that is pushed.
+pub(crate) const MARK: &[u8] = b"* ";
+
+/// What stands in front of a line of steps that is pushed.
+pub(crate) const STEP_MARK: &[u8] = b"* step ";
+
+/// The line that tells that the released outputs are frozen.
+pub(crate) const FROZEN: &[u8] = b"* frozen\n";
+
+/// How many bytes that line has without its mark.
+pub(crate) const FROZEN_LEN: usize = 7;
+
+/// What a client whose bytes were too many is told at last.
+pub(crate) const GONE_SLOW: &[u8] = b"* gone slow\n";
+
+/// The line that says how many lines of steps were left out.
+pub(crate) fn skipped_line(left_out: u64) -> ArrayVec<u8, 32> {
+    let mut digits = Buffer::new();
+    let mut line = ArrayVec::new();
+    let _ = line.try_extend_from_slice(b"* skipped ");
+    let _ = line.try_extend_from_slice(digits.format(left_out).as_bytes());
+    let _ = line.try_push(b'\n');
+    line
+}
+
+/// The lines of this text, each with the mark in front.
+pub(crate) fn marked(alloc: Global, mark: &[u8], text: &[u8]) -> Result<Vec<u8>, AllocError> {
+    let mut lines = Vec::new(alloc);
+    let mut is_start = true;
+    for byte in text {
+        if is_start {
+            lines.extend_from_slice(mark)?;
+        }
+        lines.push(*byte)?;
+        is_start = *byte == b'\n';
+    }
+    Ok(lines)
+}
+
+/// Puts this line, with the mark in front, in the place of what is there. `Err` changes nothing.
+pub(crate) fn mark_line(line: &mut Vec<u8>, text: &[u8]) -> Result<(), AllocError> {
+    line.reserve(text.len().saturating_add(MARK.len()))?;
+    line.clear();
+    line.extend_from_slice(MARK)?;
+    line.extend_from_slice(text)?;
+    Ok(())
+}
+
+/// A line that is pushed without its mark.
+pub(crate) fn behind_mark(line: &[u8]) -> &[u8] {
+    match line {
+        [b'*', b' ', text @ ..] => text,
+        _ => line,
+    }
+}
+
+/// What stands behind the first so many lines.
+pub(crate) fn behind_lines(text: &[u8], count: u32) -> &[u8] {
+    let mut rest = text;
+    for _ in 0..count {
+        let Some(end) = rest.iter().position(|byte| *byte == b'\n') else {
+            return &[];
+        };
+        rest = &rest[end + 1..];
+    }
+    rest
+}
+
+/// What stands behind the second word of a line: all but the length of the log.
+pub(crate) fn behind_length(text: &[u8]) -> &[u8] {
+    let Some(space) = text.iter().position(|byte| *byte == b' ') else {
+        return &[];
+    };
+    let rest = &text[space + 1..];
+    let Some(end) = rest.iter().position(|byte| *byte <= b' ') else {
+        return &[];
+    };
+    &rest[end..]
+}
+
+/// How many lines this text has.
+pub(crate) fn lines_in(text: &[u8]) -> u64 {
+    let mut count = 0u64;
+    for byte in text {
+        if *byte == b'\n' {
+            count = count.saturating_add(1);
+        }
+    }
+    count
+}
