@@ -8,17 +8,11 @@ mod calls;
 mod caring;
 mod conns;
 mod machine;
-mod marks;
-mod page;
 mod peering;
 mod pushing;
-mod shared;
 mod start;
 mod stepping;
-#[cfg(test)]
-mod tests;
 mod turning;
-mod watchers;
 
 pub use action::{Action, Ending};
 pub use machine::Machine;
