@@ -1,17 +1,14 @@
 //! A host from its start to its end: the worker in this thread, and those beside it.
 
-use crate::bells::Bells;
 use crate::descriptors::clients_within;
 use crate::entrance::Entrance;
-use crate::fresh_file::FreshFiles;
 use crate::input_end::InputEnd;
 use crate::links::Links;
 use crate::lookup::{Lookup, Seeking, make_lookup, spelled_address};
 use crate::operator;
 use crate::options::Options;
 use crate::seats::Seats;
-use crate::worker::{Ends, LISTENER, Offers, Shared, WAKER, Worker, micros_of};
-use crate::writing::{Writers, durable_of, end_writing, make_writers, start_writing};
+use crate::worker::{Ends, LISTENER, Offers, WAKER, Worker, micros_of};
 use mio::net::TcpListener;
 use mio::{Events, Interest, Poll, Waker};
 use std::alloc::{AllocError, Global};
@@ -24,6 +21,10 @@ use std::thread;
 use std::thread::{Scope, Threads};
 use std::time::Clock;
 use thiserror::Error;
+use warp_disk::{
+    Bells, FreshFiles, NoThread, Shared, Writers, durable_of, end_writing, make_writers,
+    start_writing, started,
+};
 use warp_hub::Facts;
 use warp_line::Timeline;
 use warp_machine::{LastDone, Machine, Start};
@@ -157,20 +158,12 @@ fn make_machine<X: Clock + RandomSource + Eprint, T: Timeline>(
     Ok(machine)
 }
 
-/// The handle of a thread, if it could be started.
-pub(crate) fn started<H, E: Drop>(running: Result<H, E>) -> Result<H, HostFault> {
-    match running {
-        Ok(handle) => Ok(handle),
-        Err(_) => Err(HostFault::System),
-    }
-}
-
 /// Starts the lookup in a thread of its own, where there is one.
 fn start_lookup<'s, E, X>(
     scope: &'s Scope<'s, E>,
     rt: &'s X,
     lookup: Option<Lookup<'s>>,
-) -> Result<(), HostFault>
+) -> Result<(), NoThread>
 where
     X: Net<Listener = net::TcpListener, Stream = net::TcpStream> + Wait + Clock + Sync + 's,
 {
@@ -201,14 +194,16 @@ where
     };
     let served = match start_lookup(scope, rt, lookup) {
         Ok(()) => serve::<X, T, P>(rt, shared, worker),
-        Err(fault) => {
+        Err(NoThread) => {
             operator::tell_no_thread(rt, "the names of peers");
-            Err(fault)
+            Err(HostFault::System)
         }
     };
     worker.finish(rt, shared.durable);
     shared.bells.end();
-    end_writing(rt, shared.durable, writing)?;
+    if end_writing(rt, shared.durable, writing).is_err() {
+        return Err(HostFault::Journal);
+    }
     served
 }
 

@@ -3,8 +3,8 @@
 ghost use Rattle.std.specs.Prelude.{◌↔◌, IsTrue};
 ghost use Rattle.warp_host.specs.Listening.{MayListen};
 
-use crate::journal_file::OpenJournal;
 use std::net::IpAddr;
+use warp_disk::OpenJournal;
 use warp_hub::Tokens;
 use warp_machine::PeerAt;
 

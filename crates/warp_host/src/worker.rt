@@ -2,10 +2,7 @@
 //!
 //! It decides nothing: each of its branches is on a result of the system, or on what the machine says.
 
-use crate::bells::Bells;
-use crate::durable::Durable;
 use crate::entrance::{Arrival, Entrance};
-use crate::handing::Handing;
 use crate::hosting::HostFault;
 use crate::input_end::InputEnd;
 use crate::links::{FIRST_PEER, Links};
@@ -21,10 +18,9 @@ use std::net::Net;
 use std::sync::Wait;
 use std::thread;
 use std::time::{Clock, Duration};
+use warp_disk::{Durable, Handing, MOST_BATCHES, Shared, Wanted, tell_slow_write};
 use warp_line::Timeline;
-use warp_machine::{
-    Action, ClientId, JournalSeen, LastDone, Machine, Note, NoteText, PeerAction,
-};
+use warp_machine::{Action, ClientId, JournalSeen, LastDone, Machine, Note, NoteText, PeerAction};
 
 pub(crate) const LISTENER: Token = Token(usize::MAX);
 
@@ -52,17 +48,10 @@ where
     X: Eprint + Net + Wait + Clock,
 {}
 
-/// What threads share beside their rings.
-#[derive(Clone, Copy)]
-pub(crate) struct Shared<'a> {
-    pub(crate) bells: &'a Bells,
-    pub(crate) durable: &'a Durable,
-}
-
-/// The worker's ways to other threads: to the journal's, if there is a journal, and to the one that looks names up.
+/// The worker's ways to other threads: to the journal's, and to the one that looks names up.
 #[derive(Drop)]
 pub(crate) struct Ends {
-    pub(crate) handing: Option<Handing>,
+    pub(crate) handing: Handing,
     pub(crate) seeking: Seeking,
 }
 
@@ -94,6 +83,23 @@ pub(crate) struct Worker<T: Timeline> {
 /// This moment of the clock, in microseconds.
 pub(crate) fn micros_of(moment: Duration) -> u64 {
     u64::try_from(moment.as_micros()).unwrap_or(u64::MAX)
+}
+
+/// Hands the records of the log that are new to the journal's thread, as far as there is room.
+fn hand<T: Timeline>(handing: &mut Handing, machine: &Machine<T>, durable: &Durable) {
+    handing.begin(durable);
+    for _ in 0..MOST_BATCHES {
+        let Some(Wanted { behind, most }) = handing.wants(machine.len()) else {
+            return;
+        };
+        if machine
+            .records_behind(behind, most, handing.batch())
+            .is_err()
+        {
+            return;
+        }
+        handing.hand(durable);
+    }
 }
 
 impl<T: Timeline> Worker<T> {
@@ -154,7 +160,9 @@ impl<T: Timeline> Worker<T> {
             WAKER => {}
             INPUT => self.may_read_input = true,
             Token(key) if key >= FIRST_PEER => self.links.note(key - FIRST_PEER, event),
-            Token(key) => self.seats.note(u32::try_from(key).unwrap_or(u32::MAX), event),
+            Token(key) => self
+                .seats
+                .note(u32::try_from(key).unwrap_or(u32::MAX), event),
         }
     }
 
@@ -171,9 +179,7 @@ impl<T: Timeline> Worker<T> {
         self.has_more = self.machine.turn::<P>(self.now);
         self.tick(rt, shared.durable);
         self.act(rt);
-        if let Some(handing) = &mut self.ends.handing {
-            handing.hand(&self.machine, shared.durable);
-        }
+        hand(&mut self.ends.handing, &self.machine, shared.durable);
     }
 
     /// Lets in who comes.
@@ -419,7 +425,7 @@ impl<T: Timeline> Worker<T> {
         let is_slow = durable.is_write_slow(Duration::from_micros(self.now));
         if is_slow && !self.is_slow_write_told {
             let (unwritten, _) = durable.waiting();
-            operator::tell_slow_write(rt, unwritten);
+            tell_slow_write(rt, unwritten);
         }
         self.is_slow_write_told = is_slow;
     }
@@ -521,11 +527,8 @@ impl<T: Timeline> Worker<T> {
     /// Hands all records to the journal's thread, as far as it can take them.
     pub(crate) fn finish<X: Wait + Clock>(&mut self, rt: &X, durable: &Durable) {
         for _ in rt.forever() {
-            let Some(handing) = &mut self.ends.handing else {
-                return;
-            };
-            handing.hand(&self.machine, durable);
-            if handing.is_done(&self.machine, durable) {
+            hand(&mut self.ends.handing, &self.machine, durable);
+            if self.ends.handing.is_done(self.machine.len(), durable) {
                 return;
             }
             thread::sleep(rt, Duration::from_millis(MOMENT));

@@ -17,7 +17,8 @@ use std::fs::{self, Files, OpenFile};
 use std::io::{Eprint, Read};
 use std::net::{Ipv4Addr, SocketAddr};
 use std::os::unix::fs::{MetadataExt, PermissionsExt};
-use warp_host::{DEFAULT_CLIENTS, MOST_PEERS, PeerAt, SyncWhen, may_listen};
+use warp_disk::SyncWhen;
+use warp_host::{DEFAULT_CLIENTS, MOST_PEERS, PeerAt, may_listen};
 use warp_hub::PeerToken;
 use warp_words::HostJob;
 

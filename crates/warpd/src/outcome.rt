@@ -7,7 +7,8 @@ ghost use Rattle.warpd.specs.Outcome.{status_of, unread_words};
 
 use arrayvec::ArrayString;
 use itoa::Buffer;
-use warp_host::{HostFault, OpenFault};
+use warp_disk::OpenFault;
+use warp_host::HostFault;
 use warp_session::{ServeFault, SessionEnd};
 use warp_trace::TraceFault;
 use warp_world::ScheduleFault;

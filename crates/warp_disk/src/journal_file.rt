@@ -1,6 +1,6 @@
 //! The file of a journal: it is locked, read and mended before a host begins.
 ghost use Rattle.std.specs.Prelude.{◌≡◌};
-ghost use Rattle.warp_host.specs.Telling.{told_with};
+ghost use Rattle.warp_disk.specs.Telling.{told_with};
 
 use crate::durable::Tells;
 use crate::fresh_file::{

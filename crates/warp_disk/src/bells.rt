@@ -8,7 +8,7 @@ use std::sync::atomic::{AtomicBool, Ordering};
 
 /// What the threads of a host share beside the rings.
 #[derive(Drop)]
-pub(crate) struct Bells {
+pub struct Bells {
     waker: Waker,
     worker_sleeps: AtomicBool,
     is_over: AtomicBool,
@@ -16,7 +16,7 @@ pub(crate) struct Bells {
 
 impl Bells {
     /// The worker, whose waker this is, is awake.
-    pub(crate) fn new(waker: Waker) -> Bells {
+    pub fn new(waker: Waker) -> Bells {
         Bells {
             waker,
             worker_sleeps: AtomicBool::new(false),
@@ -25,29 +25,29 @@ impl Bells {
     }
 
     /// The worker is about to wait for sockets: what is made for it from now on wakes it.
-    pub(crate) fn worker_sleeps(&self) {
+    pub fn worker_sleeps(&self) {
         self.worker_sleeps.store(true, Ordering::SeqCst);
     }
 
     /// The worker is awake.
-    pub(crate) fn worker_wakes(&self) {
+    pub fn worker_wakes(&self) {
         self.worker_sleeps.store(false, Ordering::SeqCst);
     }
 
     /// Wakes the worker where it sleeps.
-    pub(crate) fn wake_worker(&self) {
+    pub fn wake_worker(&self) {
         if self.worker_sleeps.swap(false, Ordering::SeqCst) {
             let _ = self.waker.wake();
         }
     }
 
     /// The host is over.
-    pub(crate) fn end(&self) {
+    pub fn end(&self) {
         self.is_over.store(true, Ordering::SeqCst);
     }
 
     /// Whether the host is over.
-    pub(crate) fn is_over(&self) -> bool {
+    pub fn is_over(&self) -> bool {
         self.is_over.load(Ordering::SeqCst)
     }
 }

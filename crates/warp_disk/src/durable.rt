@@ -1,7 +1,7 @@
 //! How much of the log is in the journal's file and on the disk, how much of it may be told, and how the threads that
 //! write and sync are woken and ended.
 ghost use Rattle.std.specs.Prelude.{◌≡◌};
-ghost use Rattle.warp_host.specs.Telling.{longest};
+ghost use Rattle.warp_disk.specs.Telling.{longest};
 
 use crate::tallies::{Synced, Written};
 use std::sync::Wait;
@@ -53,7 +53,7 @@ fn longest(tells: Tells, written: u32, synced: u32) -> u32
 
 /// What the threads of a host share for its journal.
 #[derive(Drop)]
-pub(crate) struct Durable {
+pub struct Durable {
     tells: Tells,
     // How many records were taken to be written.
     taken: AtomicU32,
@@ -96,7 +96,7 @@ impl Durable {
     }
 
     /// The longest log that may be told of now.
-    pub(crate) fn limit(&self) -> u32 {
+    pub fn limit(&self) -> u32 {
         longest(self.tells, self.written(), self.synced())
     }
 
@@ -106,12 +106,12 @@ impl Durable {
     }
 
     /// How many records are on the disk; none where there is no journal.
-    pub(crate) fn synced(&self) -> u32 {
+    pub fn synced(&self) -> u32 {
         self.synced.load(Ordering::SeqCst)
     }
 
     /// How many records wait to be handed to the system, and how many wait for the disk in all.
-    pub(crate) fn waiting(&self) -> (u32, u32) {
+    pub fn waiting(&self) -> (u32, u32) {
         let written = self.written();
         let taken = self.taken.load(Ordering::SeqCst).max(written);
         (taken - written, taken.saturating_sub(self.synced()))
@@ -128,7 +128,7 @@ impl Durable {
     }
 
     /// Whether a write goes on for long.
-    pub(crate) fn is_write_slow(&self, now: Duration) -> bool {
+    pub fn is_write_slow(&self, now: Duration) -> bool {
         passed(now, self.writes_since.load(Ordering::SeqCst)) > SLOW
     }
 
@@ -148,7 +148,7 @@ impl Durable {
     }
 
     /// For how many milliseconds the oldest record waits that was taken and is not synced.
-    pub(crate) fn waits(&self, now: Duration) -> u64 {
+    pub fn waits(&self, now: Duration) -> u64 {
         passed(now, self.waits_since.load(Ordering::SeqCst))
     }
 
@@ -213,7 +213,7 @@ impl Durable {
     }
 
     /// Whether the journal can't be written now.
-    pub(crate) fn is_failing(&self) -> bool {
+    pub fn is_failing(&self) -> bool {
         self.is_failing.load(Ordering::SeqCst)
     }
 
@@ -223,7 +223,7 @@ impl Durable {
     }
 
     /// Whether the journal could not be written until the end.
-    pub(crate) fn has_failed(&self) -> bool {
+    pub fn has_failed(&self) -> bool {
         self.has_failed.load(Ordering::SeqCst)
     }
 

@@ -1,44 +1,57 @@
 //! The journal's thread and the one that syncs: what they are made of, their start and their end.
 
+use crate::bells::Bells;
 use crate::durable::{Durable, Tells};
 use crate::fresh_file::FreshFiles;
 use crate::handing::{Handing, RING_ROOM};
-use crate::hosting::{HostFault, started};
 use crate::journal_file::OpenJournal;
 use crate::scribe::Scribe;
 use crate::syncing::{SYNCS_ROOM, Syncer, Syncs};
-use crate::worker::Shared;
 use rtrb::RingBuffer;
 use std::alloc::{AllocError, Global};
 use std::io::Eprint;
 use std::sync::Wait;
 use std::thread::{JoinHandle, Scope, Threads};
 use std::time::{Clock, Duration};
+use warp_journal::Failed;
+
+/// No thread could be started.
+#[derive(Clone, Copy, Debug, PartialEq, Eq)]
+pub struct NoThread;
+
+/// What the threads of a host share beside their rings.
+#[derive(Clone, Copy)]
+pub struct Shared<'a> {
+    /// What wakes the one that has the log.
+    pub bells: &'a Bells,
+    /// What of the log is written.
+    pub durable: &'a Durable,
+}
 
 /// The threads of a journal.
 #[derive(Drop)]
-pub(crate) struct Writers<'a> {
-    pub(crate) scribe: Scribe<'a>,
-    pub(crate) syncer: Syncer<'a>,
+pub struct Writers<'a> {
+    scribe: Scribe<'a>,
+    syncer: Syncer<'a>,
 }
 
 /// How much of this journal is on the disk, whose records the replica has taken.
-pub(crate) fn durable_of(journal: &Option<OpenJournal>) -> Durable {
+pub fn durable_of(journal: &Option<OpenJournal>) -> Durable {
     match journal {
         Some(journal) => Durable::new(journal.when.tells(), journal.keeper.len()),
         None => Durable::new(Tells::All, 0),
     }
 }
 
-/// The worker's way to the journal's thread, and what that and the one that syncs hold.
-pub(crate) fn make_writers<'a>(
+/// The way to the journal's thread, and what that and the one that syncs hold, if there is a journal.
+pub fn make_writers<'a>(
     alloc: Global,
     journal: Option<OpenJournal>,
     shared: Shared<'a>,
-) -> Result<(Option<Handing>, Option<Writers<'a>>), AllocError> {
+) -> Result<(Handing, Option<Writers<'a>>), AllocError> {
     let Shared { bells, durable } = shared;
     let Some(journal) = journal else {
-        return Ok((None, None));
+        return Ok((Handing::new(alloc, None, 0), None));
     };
     let OpenJournal {
         keeper,
@@ -50,7 +63,7 @@ pub(crate) fn make_writers<'a>(
     let (ring, handed) = RingBuffer::new(alloc, RING_ROOM)?;
     let (asking, jobs) = RingBuffer::new(alloc, SYNCS_ROOM)?;
     let (ending, done) = RingBuffer::new(alloc, SYNCS_ROOM)?;
-    let handing = Handing::new(alloc, ring, keeper.len());
+    let handing = Handing::new(alloc, Some(ring), keeper.len());
     let syncer = Syncer {
         disk: handle,
         jobs,
@@ -72,15 +85,23 @@ pub(crate) fn make_writers<'a>(
         beginnings: 0,
         lock,
     };
-    Ok((Some(handing), Some(Writers { scribe, syncer })))
+    Ok((handing, Some(Writers { scribe, syncer })))
+}
+
+/// The handle of a thread, if it could be started.
+pub fn started<H, E: Drop>(running: Result<H, E>) -> Result<H, NoThread> {
+    match running {
+        Ok(handle) => Ok(handle),
+        Err(_) => Err(NoThread),
+    }
 }
 
 /// Starts the journal's thread and the one that syncs, if there is a journal.
-pub(crate) fn start_writing<'s, E, X: Eprint + FreshFiles + Wait + Clock + Sync + 's>(
+pub fn start_writing<'s, E, X: Eprint + FreshFiles + Wait + Clock + Sync + 's>(
     scope: &'s Scope<'s, E>,
     rt: &'s X,
     writers: Option<Writers<'s>>,
-) -> Result<Option<JoinHandle<()>>, HostFault> {
+) -> Result<Option<JoinHandle<()>>, NoThread> {
     let Some(writers) = writers else {
         return Ok(None);
     };
@@ -97,17 +118,17 @@ pub(crate) fn start_writing<'s, E, X: Eprint + FreshFiles + Wait + Clock + Sync 
 }
 
 /// Ends the journal's thread, once all that was handed to it is written. `Err` where the journal could not be written.
-pub(crate) fn end_writing<X: Threads + Wait>(
+pub fn end_writing<X: Threads + Wait>(
     rt: &X,
     durable: &Durable,
     writing: Option<JoinHandle<()>>,
-) -> Result<(), HostFault> {
+) -> Result<(), Failed> {
     durable.end();
     if let Some(writing) = writing {
         writing.join(rt);
     }
     if durable.has_failed() {
-        return Err(HostFault::Journal);
+        return Err(Failed);
     }
     Ok(())
 }
