@@ -2,11 +2,10 @@
 
 ghost use Rattle.std.specs.Prelude.{◌≤◌, length};
 
-use crate::action::{Action, Ending};
 use crate::conns::{MOST_REST, Want};
 use crate::machine::Machine;
-use crate::start::JournalSeen;
 use warp_clients::{ClientId, Kind};
+use warp_events::{Action, Ending, JournalSeen};
 use warp_line::Timeline;
 use warp_record::Record;
 use warp_service::Note;

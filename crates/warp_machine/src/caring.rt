@@ -1,10 +1,10 @@
 //! What is done once a second: late clients go, silent ones are pinged, an operator is told what there is to tell, and what
 //! is measured is noted.
 
-use crate::action::Ending;
 use crate::conns::Want;
 use crate::machine::Machine;
 use warp_clients::{ClientId, Kind};
+use warp_events::Ending;
 use warp_line::Timeline;
 use warp_pages::Seen;
 use warp_record::{Query, Reply};
@@ -212,10 +212,7 @@ impl<T: Timeline> Machine<T> {
             horizon_microstep: self.counted.horizon.1,
             peers: self.peers.len() as u64,
             peers_connected: self.peers_found(),
-            clients_refused: self
-                .counted
-                .turned_away
-                .saturating_add(journal.undescribed),
+            clients_refused: self.counted.turned_away.saturating_add(journal.undescribed),
             unauthorized: self.pages.unauthorized(),
             forbidden: self.pages.forbidden(),
             journal_records: u64::from(journal.records),

@@ -1,9 +1,9 @@
 //! The connections of a host: what is known of each beside what its client says, and what is wanted of it.
 
-use crate::action::Action;
 use std::alloc::{AllocError, Global};
 use std::collections::VecDeque;
 use warp_clients::ClientId;
+use warp_events::Action;
 use warp_pages::Visit;
 
 /// So many bytes of a connection wait at most for which its client had no room.

@@ -3,25 +3,20 @@
 //! microseconds, and what is to be done is asked for (`Machine::next`).
 #![tactic(auto)]
 
-mod action;
 mod calls;
 mod caring;
 mod conns;
+mod deciding;
 mod machine;
-mod marks;
-mod page;
 mod peering;
 mod pushing;
-mod shared;
 mod start;
 mod stepping;
-#[cfg(test)]
-mod tests;
 mod turning;
-mod watchers;
 
-pub use action::{Action, Ending};
+pub use deciding::{Drives, drive};
 pub use machine::Machine;
-pub use start::{JournalSeen, LastDone, Options, PeerAt, Start};
-pub use warp_clients::ClientId;
-pub use warp_service::{Named, Note, NoteText, PeerAction};
+pub use start::{LastDone, Options, PeerAt, Start};
+pub use warp_events::{
+    Action, ClientId, Decides, Ending, JournalSeen, Named, Note, NoteText, PeerAction,
+};

@@ -1,20 +1,20 @@
 //! The machine: what it holds, and how it begins.
 
-use crate::action::Ending;
 use crate::conns::Conns;
 use crate::peering::Followed;
-use crate::start::{JournalSeen, Options, PeerAt, Start};
-use crate::stepping::Steps;
-use crate::watchers::Watchers;
+use crate::start::{Options, PeerAt, Start};
 use std::alloc::Global;
 use std::collections::VecDeque;
 use warp_clients::Clients;
+use warp_events::{Ending, JournalSeen};
 use warp_hub::Rights;
 use warp_line::Timeline;
-use warp_pages::{Pages, Stopwatch};
+use warp_pages::{Pages, Seen, Stopwatch};
+use warp_push::{Steps, Watchers};
 use warp_room::Room;
 use warp_service::{Named, Note, Peer, Timers};
 use warp_tag::{Form, OutOfMemory};
+use warp_trace::Labels;
 
 /// So many lines of a client may wait in the room.
 const MOST_LINES: u32 = 256;
@@ -75,6 +75,8 @@ pub struct Machine<T: Timeline> {
     pub(crate) conns: Conns,
     pub(crate) watchers: Watchers,
     pub(crate) steps: Steps,
+    /// The names by which steps are told; none while they are lent to who notes.
+    pub(crate) labels: Option<Labels>,
     pub(crate) pages: Pages,
     pub(crate) peers: Vec<Followed>,
     /// Some peer may want something.
@@ -120,7 +122,7 @@ impl<T: Timeline> Machine<T> {
             replica,
             mut facts,
             labels,
-            pages,
+            texts,
             peers,
             options,
         } = start;
@@ -132,6 +134,8 @@ impl<T: Timeline> Machine<T> {
             return Err(OutOfMemory);
         };
         let most_records = form.most_records();
+        let seen = Seen::nothing(u64::from(options.wanted), u64::from(most_records));
+        let pages = Pages::new(alloc, texts, seen)?;
         let has_tokens = pages.has_tokens();
         let room = Room::new(alloc, replica, MOST_LINES, MOST_ANSWERS);
         let mut machine = Machine {
@@ -139,7 +143,8 @@ impl<T: Timeline> Machine<T> {
             clients: Clients::new(alloc, keys, room, facts),
             conns: Conns::new(alloc),
             watchers: Watchers::new(alloc),
-            steps: Steps::new(alloc, labels),
+            steps: Steps::new(alloc),
+            labels: Some(labels),
             pages,
             peers: Vec::new(alloc),
             are_peers_due: true,

@@ -1,8 +1,8 @@
 //! The peers of a host: what comes of their connections, their lines for the room, and its answers to these.
 
-use crate::action::Action;
 use crate::machine::Machine;
 use warp_clients::ClientId;
+use warp_events::Action;
 use warp_line::Timeline;
 use warp_service::{Note, Peer, PeerAction};
 

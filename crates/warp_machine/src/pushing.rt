@@ -1,14 +1,14 @@
-//! What is pushed to who watches.
+//! What is told for who watches, and pushed to them.
 
 use crate::calls::MOST_UNREAD;
 use crate::machine::Machine;
-use crate::marks::{Given, News};
-use crate::page::{FROZEN, FROZEN_LEN, GONE_SLOW, MARK, behind_lines, marked, skipped_line};
-use crate::watchers::{Answered, Asked, MOST_TOLD};
 use warp_clients::ClientId;
 use warp_hub::Subject;
 use warp_line::Timeline;
-use warp_watch::{Question, Told};
+use warp_push::{
+    Answered, Asked, FROZEN, GONE_SLOW, Given, MOST_TOLD, News, Pushing, behind_lines, skipped_line,
+};
+use warp_watch::Question;
 
 /// So many words that begin or end a watch are noted at once at most.
 const MOST_WATCHED: u32 = 1_048_576;
@@ -17,7 +17,7 @@ const MOST_WATCHED: u32 = 1_048_576;
 const MOST_PAGES: u32 = 8;
 
 /// More bytes do not wait for a client that is pushed to.
-const MOST_PUSHED: usize = 1 << 20;
+const MOST_PUSHED: usize = 1_048_576;
 
 impl<T: Timeline> Machine<T> {
     /// Notes who watches what from now on. Without memory a client is told nothing more.
@@ -53,14 +53,20 @@ impl<T: Timeline> Machine<T> {
             let Some(asked) = self.next_asked() else {
                 return count > 0;
             };
-            match self.clients.tell(asked.question) {
-                Ok(told) => self.watchers.keep(asked, told),
-                Err(_) => {
-                    self.watchers.missed(asked);
-                    return false;
-                }
+            if !self.tell_one(asked) {
+                return false;
             }
         }
+        true
+    }
+
+    /// Tells what is asked; whether it was told. Where not, it is asked again.
+    fn tell_one(&mut self, asked: Asked) -> bool {
+        let Ok(told) = self.clients.tell(asked.question) else {
+            self.watchers.missed(&asked);
+            return false;
+        };
+        self.watchers.keep(asked, told);
         true
     }
 
@@ -79,6 +85,11 @@ impl<T: Timeline> Machine<T> {
                 question,
             });
         }
+        self.next_own()
+    }
+
+    /// The next page of its own that a client wants, which is on its way then.
+    fn next_own(&mut self) -> Option<Asked> {
         for _ in 0..self.watchers.wanting() {
             let who = self.watchers.next_wanting()?;
             if let Some(question) = self.own_page(who) {
@@ -96,11 +107,7 @@ impl<T: Timeline> Machine<T> {
         if self.clients.is_stopped(who) || self.clients.unread(who) >= MOST_UNREAD {
             return None;
         }
-        let question = self.watchers.next_page(who)?;
-        if self.watchers.wants_page(who) {
-            let _ = self.watchers.want(who.key);
-        }
-        Some(question)
+        self.watchers.own_page(who)
     }
 
     /// Pushes what was told, as far as it may be.
@@ -109,128 +116,60 @@ impl<T: Timeline> Machine<T> {
             let Some(answered) = self.watchers.next_within(self.limit) else {
                 return;
             };
-            let Answered { asked, told } = answered;
-            self.counted.newest = self.counted.newest.max(told.len);
-            match asked.question {
-                Question::Log { from, until } => {
-                    self.push_page(asked, Subject::Log, from, until, &told);
-                }
-                Question::Released { from, until } => {
-                    self.push_page(asked, Subject::Released, from, until, &told);
-                }
-                Question::Vars => self.push_value(asked, Subject::Vars, &told),
-                Question::Horizon => self.push_value(asked, Subject::Horizon, &told),
-                Question::Breaches => self.push_value(asked, Subject::Breach, &told),
-                _ => {}
-            }
+            self.push_told(&answered);
         }
     }
 
-    /// Pushes a page, to one watcher or to all.
-    fn push_page(&mut self, asked: Asked, subject: Subject, from: u32, until: u32, told: &Told) {
-        let end = if told.frozen {
-            told.text.len().saturating_sub(FROZEN_LEN)
-        } else {
-            told.text.len()
-        };
-        let Ok(text) = marked(self.alloc, MARK, &told.text[..end]) else {
-            self.watchers.missed(asked);
+    /// Pushes what was told.
+    fn push_told(&mut self, answered: &Answered) {
+        self.counted.newest = self.counted.newest.max(answered.len());
+        let Some(pushing) = self.watchers.pushing(answered) else {
             return;
         };
-        let news = News::Page {
-            from,
-            next: told.next,
-            frozen: told.frozen,
-            is_own: asked.who.is_some(),
-        };
-        match asked.who {
+        self.push_news(&pushing);
+        self.watchers.pushed(&pushing);
+    }
+
+    /// Pushes news of a thing, to one watcher or to all.
+    pub(crate) fn push_news(&mut self, pushing: &Pushing) {
+        match pushing.who {
             Some(who) => {
-                self.watchers
-                    .tail_mut(subject)
-                    .learn(from, until, told.next, told.frozen, told.len);
-                let _watches = self.push_to(who, subject, news, told.len, &text);
-                let _ = self.watchers.want(who.key);
+                let _watches = self.push_to(who, pushing);
             }
-            None => self.push_page_to_all(subject, news, from, told, &text),
+            None => self.push_to_all(pushing),
         }
     }
 
-    /// Pushes a page to all that watch; each asks for its own where they do not keep up.
-    fn push_page_to_all(
-        &mut self,
-        subject: Subject,
-        news: News,
-        from: u32,
-        told: &Told,
-        text: &[u8],
-    ) {
-        let each = self
-            .watchers
-            .tail_mut(subject)
-            .told(from, told.next, told.frozen, told.len);
-        self.push_to_all(subject, news, told.len, text);
-        if each {
-            self.watchers.want_all(subject);
-        }
-    }
-
-    /// Pushes the newest value of a thing to all that were not pushed it.
-    fn push_value(&mut self, asked: Asked, subject: Subject, told: &Told) {
-        let alloc = self.alloc;
-        let latest = self.watchers.latest_mut(subject);
-        let Ok(is_due) = latest.told(told.len, &told.text) else {
-            return;
-        };
-        if !is_due {
-            return;
-        }
-        let news = News::Value(latest.version);
-        match Vec::from_slice(alloc, &latest.text) {
-            Ok(text) => self.push_to_all(subject, news, told.len, &text),
-            Err(_) => {
-                latest.want(true);
-                self.watchers.missed(asked);
-            }
-        }
-    }
-
-    /// Pushes news of a thing, with this text, to all that watch it; who watches it no longer leaves its list.
-    pub(crate) fn push_to_all(&mut self, subject: Subject, news: News, len: u32, text: &[u8]) {
+    /// Pushes news of a thing to all that watch it; who watches it no longer leaves its list.
+    fn push_to_all(&mut self, pushing: &Pushing) {
         // From the last on: what stands in the place of one that left was looked at.
-        let count = self.watchers.count(subject);
+        let count = self.watchers.count(pushing.subject);
         for behind in 0..count {
-            self.push_at(subject, count - behind - 1, news, len, text);
+            self.push_at(count - behind - 1, pushing);
         }
     }
 
     /// Pushes news to who stands at this place of the list of watchers, or takes it off.
-    fn push_at(&mut self, subject: Subject, at: usize, news: News, len: u32, text: &[u8]) {
-        let Some(key) = self.watchers.key_at(subject, at) else {
-            return;
-        };
-        let watches = match self.watchers.who(key) {
-            Some(who) => self.push_to(who, subject, news, len, text),
+    fn push_at(&mut self, at: usize, pushing: &Pushing) {
+        let watches = match self.watchers.watcher(pushing.subject, at) {
+            Some(who) => self.push_to(who, pushing),
             None => false,
         };
         if !watches {
-            self.watchers.drop_at(subject, at);
+            self.watchers.drop_at(pushing.subject, at);
         }
     }
 
     /// Pushes news of a thing to a client, as far as it was not pushed them. Whether it watches it.
-    fn push_to(
-        &mut self,
-        who: ClientId,
-        subject: Subject,
-        news: News,
-        len: u32,
-        text: &[u8],
-    ) -> bool {
+    fn push_to(&mut self, who: ClientId, pushing: &Pushing) -> bool {
         let unread = self.clients.unread(who);
-        let Some(given) = self.watchers.take(who, subject, news, unread) else {
+        let given = self
+            .watchers
+            .take(who, pushing.subject, pushing.news, unread);
+        let Some(given) = given else {
             return false;
         };
-        self.push_given(who, given, len, text);
+        self.push_given(who, given, pushing.len, &pushing.text);
         true
     }
 
@@ -268,6 +207,10 @@ impl<T: Timeline> Machine<T> {
             left_out: 0,
             count: 0,
         };
-        let _watches = self.push_to(who, Subject::Steps, nothing, 0, b"");
+        let unread = self.clients.unread(who);
+        let Some(given) = self.watchers.take(who, Subject::Steps, nothing, unread) else {
+            return;
+        };
+        self.push_given(who, given, 0, b"");
     }
 }

@@ -1,23 +1,22 @@
 //! What is asked for all watchers of a thing at once.
 
 use crate::page::{behind_length, behind_mark, mark_line};
-use std::alloc::Global;
-use warp_tag::OutOfMemory;
+use std::alloc::{AllocError, Global};
 use warp_watch::{PAGE, Question};
 
 /// So many full pages in a row are pushed to all watchers; then each asks for its own, as fast as it reads.
 const MOST_FULL: u32 = 8;
 
 /// Whether a page has as many lines as it may have: there may be more behind it.
-pub(crate) fn is_full(from: u32, next: u32) -> bool {
+fn is_full(from: u32, next: u32) -> bool {
     next.saturating_sub(from) >= PAGE
 }
 
 /// Where the watchers of pages are that have all there is.
-#[derive(Drop)]
+#[derive(Clone, Copy)]
 pub(crate) struct Tail {
     /// The first place that they were not told, if it is known.
-    pub(crate) next: Option<u32>,
+    next: Option<u32>,
     /// The length of the log at which nothing more was there.
     seen: u32,
     /// So many full pages came one behind another.
@@ -25,27 +24,22 @@ pub(crate) struct Tail {
     /// A page for them is on its way.
     is_asked: bool,
     /// What is watched is frozen: each asks for its own last page.
-    pub(crate) is_frozen: bool,
-    /// The keys of the watchers, and of some that watch no longer.
-    pub(crate) watchers: Vec<u32>,
+    is_frozen: bool,
 }
 
-impl Tail {
-    /// Nobody watches.
-    pub(crate) fn new(alloc: Global) -> Tail {
-        Tail {
-            next: None,
-            seen: 0,
-            full: 0,
-            is_asked: false,
-            is_frozen: false,
-            watchers: Vec::new(alloc),
-        }
-    }
+/// Nothing is known.
+pub(crate) const NO_TAIL: Tail = Tail {
+    next: None,
+    seen: 0,
+    full: 0,
+    is_asked: false,
+    is_frozen: false,
+};
 
+impl Tail {
     /// The place from which the next page for all is to be asked, if one is due at this length of the log.
     pub(crate) fn due(&mut self, newest: u32) -> Option<u32> {
-        if self.is_asked || self.watchers.is_empty() {
+        if self.is_asked {
             return None;
         }
         if newest == self.seen && self.full == 0 {
@@ -87,7 +81,8 @@ impl Tail {
         true
     }
 
-    /// A page of a watcher's own was told: where it shows the end, that is where the others go on.
+    /// A page of a watcher's own was told: where it shows the end, that is where the others go on. It moves nothing on that is
+    /// known, since who stands there is told no page but the next one for all; it moves back what was learnt behind the end.
     pub(crate) fn learn(&mut self, from: u32, until: u32, next: u32, frozen: bool, len: u32) {
         if frozen {
             self.is_frozen = true;
@@ -100,6 +95,9 @@ impl Tail {
             return;
         }
         if until != 0 && next >= until {
+            return;
+        }
+        if !self.is_behind(next) {
             return;
         }
         self.next = Some(next);
@@ -117,10 +115,7 @@ impl Tail {
 
     /// Up to where a watcher's own page goes; 0 where there is no end to it.
     pub(crate) fn until(&self) -> u32 {
-        match self.next {
-            Some(tail) => tail,
-            None => 0,
-        }
+        self.next.unwrap_or(0)
     }
 }
 
@@ -129,17 +124,15 @@ impl Tail {
 pub(crate) struct Latest {
     question: Question,
     /// Its line as it is pushed; nothing before the first.
-    pub(crate) text: Vec<u8>,
+    text: Vec<u8>,
     /// The so-manieth value it is; 0 before the first.
-    pub(crate) version: u64,
+    version: u64,
     /// The length of the log at which it was told.
     seen: u32,
     /// Some watcher was not pushed it, or none was told yet.
     is_wanted: bool,
     /// It is on its way.
     is_asked: bool,
-    /// The keys of the watchers, and of some that watch no longer.
-    pub(crate) watchers: Vec<u32>,
 }
 
 impl Latest {
@@ -152,7 +145,6 @@ impl Latest {
             seen: 0,
             is_wanted: false,
             is_asked: false,
-            watchers: Vec::new(alloc),
         }
     }
 
@@ -163,7 +155,7 @@ impl Latest {
 
     /// The question, if it is due at this length of the log.
     pub(crate) fn due(&mut self, newest: u32) -> Option<Question> {
-        if self.is_asked || self.watchers.is_empty() {
+        if self.is_asked {
             return None;
         }
         if newest == self.seen && !self.is_wanted {
@@ -178,6 +170,11 @@ impl Latest {
         self.is_asked = false;
     }
 
+    /// The number of the newest value.
+    pub(crate) fn version(&self) -> u64 {
+        self.version
+    }
+
     /// Whether this line says another value.
     fn differs(&self, text: &[u8]) -> bool {
         if self.version == 0 {
@@ -186,17 +183,38 @@ impl Latest {
         behind_length(text) != behind_length(behind_mark(&self.text))
     }
 
+    /// Keeps a new value.
+    fn renew(&mut self, text: &[u8]) -> Result<(), AllocError> {
+        mark_line(&mut self.text, text)?;
+        self.version = self.version.wrapping_add(1);
+        Ok(())
+    }
+
     /// It was told. Whether there may be watchers that were not pushed it. `Err` takes nothing on.
-    pub(crate) fn told(&mut self, len: u32, text: &[u8]) -> Result<bool, OutOfMemory> {
+    fn told(&mut self, len: u32, text: &[u8]) -> Result<bool, AllocError> {
         self.is_asked = false;
         let is_new = self.differs(text);
         if is_new {
-            mark_line(&mut self.text, text)?;
-            self.version = self.version.wrapping_add(1);
+            self.renew(text)?;
         }
         let is_due = is_new || self.is_wanted;
         self.seen = len;
         self.is_wanted = false;
         Ok(is_due)
+    }
+
+    /// It was told: its line, where there may be watchers that were not pushed it. Without memory it is asked again.
+    pub(crate) fn news(&mut self, alloc: Global, len: u32, text: &[u8]) -> Option<Vec<u8>> {
+        let Ok(is_due) = self.told(len, text) else {
+            return None;
+        };
+        if !is_due {
+            return None;
+        }
+        let Ok(text) = Vec::from_slice(alloc, &self.text) else {
+            self.is_wanted = true;
+            return None;
+        };
+        Some(text)
     }
 }

@@ -1,7 +1,7 @@
 //! What a host wants of the system.
 
-use warp_clients::ClientId;
 use warp_service::{Note, PeerAction};
+use warp_watch::ClientId;
 
 /// Why a host ends.
 #[derive(Clone, Copy, Debug, PartialEq, Eq)]
@@ -15,13 +15,13 @@ pub enum Ending {
 /// What a host wants. A connection is named by its client.
 #[derive(Clone, Copy)]
 pub enum Action {
-    /// There are bytes to be written to it (`Machine::output`), where there were none before: they are written as far as
+    /// There are bytes to be written to it (`Decides::output`), where there were none before: they are written as far as
     /// the system takes them, and on when it takes more, until there are none.
     Write(ClientId),
-    /// Bytes of it are wanted again (`Machine::wants`).
+    /// Bytes of it are wanted again (`Decides::wants`).
     Hear(ClientId),
     /// It is told nothing more: its way out is to be shut. What comes of it is read and dropped until its end, which is
-    /// told (`Machine::ended`).
+    /// told (`Decides::ended`).
     End(ClientId),
     /// It is to be closed: nothing is known of it any more.
     Close(ClientId),
@@ -29,7 +29,7 @@ pub enum Action {
     Peer(u16, PeerAction),
     /// Whether connections are let in from now on. At first they are.
     Listen(bool),
-    /// An operator is to be told this, with what `Machine::named` names for it.
+    /// An operator is to be told this, with what `Decides::named` names for it.
     Tell(Note),
     /// The host has ended.
     Over(Ending),

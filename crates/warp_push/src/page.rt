@@ -11,16 +11,16 @@ pub(crate) const MARK: &[u8] = b"* ";
 pub(crate) const STEP_MARK: &[u8] = b"* step ";
 
 /// The line that tells that the released outputs are frozen.
-pub(crate) const FROZEN: &[u8] = b"* frozen\n";
+pub const FROZEN: &[u8] = b"* frozen\n";
 
 /// How many bytes that line has without its mark.
-pub(crate) const FROZEN_LEN: usize = 7;
+const FROZEN_LEN: usize = 7;
 
 /// What a client whose bytes were too many is told at last.
-pub(crate) const GONE_SLOW: &[u8] = b"* gone slow\n";
+pub const GONE_SLOW: &[u8] = b"* gone slow\n";
 
 /// The line that says how many lines of steps were left out.
-pub(crate) fn skipped_line(left_out: u64) -> ArrayVec<u8, 32> {
+pub fn skipped_line(left_out: u64) -> ArrayVec<u8, 32> {
     let mut digits = Buffer::new();
     let mut line = ArrayVec::new();
     let _ = line.try_extend_from_slice(b"* skipped ");
@@ -43,6 +43,19 @@ pub(crate) fn marked(alloc: Global, mark: &[u8], text: &[u8]) -> Result<Vec<u8>,
     Ok(lines)
 }
 
+/// The lines of a page that was told, each with its mark, but for a last one that says that all is frozen.
+pub(crate) fn page_text(alloc: Global, text: &[u8], frozen: bool) -> Result<Vec<u8>, AllocError> {
+    marked(alloc, MARK, lines_of(text, frozen))
+}
+
+/// A page that was told, but for a last line that says that all is frozen.
+fn lines_of(text: &[u8], frozen: bool) -> &[u8] {
+    if !frozen {
+        return text;
+    }
+    &text[..text.len().saturating_sub(FROZEN_LEN)]
+}
+
 /// Puts this line, with the mark in front, in the place of what is there. `Err` changes nothing.
 pub(crate) fn mark_line(line: &mut Vec<u8>, text: &[u8]) -> Result<(), AllocError> {
     line.reserve(text.len().saturating_add(MARK.len()))?;
@@ -60,14 +73,22 @@ pub(crate) fn behind_mark(line: &[u8]) -> &[u8] {
     }
 }
 
+/// What stands behind the first line.
+fn behind_line(text: &[u8]) -> &[u8] {
+    let Some(end) = text.iter().position(|byte| *byte == b'\n') else {
+        return &[];
+    };
+    &text[end + 1..]
+}
+
 /// What stands behind the first so many lines.
-pub(crate) fn behind_lines(text: &[u8], count: u32) -> &[u8] {
+pub fn behind_lines(text: &[u8], count: u32) -> &[u8] {
     let mut rest = text;
     for _ in 0..count {
-        let Some(end) = rest.iter().position(|byte| *byte == b'\n') else {
-            return &[];
-        };
-        rest = &rest[end + 1..];
+        if rest.is_empty() {
+            return rest;
+        }
+        rest = behind_line(rest);
     }
     rest
 }
