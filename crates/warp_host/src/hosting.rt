@@ -21,8 +21,8 @@ use std::thread::{Scope, Threads};
 use std::time::Clock;
 use thiserror::Error;
 use warp_disk::{
-    Bells, FreshFiles, Handing, NoThread, Shared, Writers, durable_of, end_writing, make_writers,
-    start_writing, started,
+    Bells, FreshFiles, Handing, NoThread, OpenJournal, Shared, Writers, durable_of, end_writing,
+    make_writers, start_writing, started,
 };
 use warp_events::Decides;
 
@@ -183,7 +183,7 @@ fn make_worker<X: Eprint + Clock>(
     ends: Ends,
     listener: TcpListener,
     until_input_ends: bool,
-    peers: usize,
+    peers: u16,
 ) -> Result<Worker, HostFault> {
     let now = micros_of(or_told(rt, "time", rt.monotonic())?);
     let buffer = vec![in alloc; 0u8; READ]?;
@@ -220,6 +220,19 @@ fn wants_lookup<P, M: Decides<P>>(machine: &M, peers: u16) -> bool {
     false
 }
 
+/// The worker's ways to other threads, and what runs beside it.
+fn make_beside<'a>(
+    alloc: Global,
+    shared: Shared<'a>,
+    journal: Option<OpenJournal>,
+    wants_lookup: bool,
+) -> Result<(Ends, Beside<'a>), AllocError> {
+    let (seeking, lookup) = make_lookup(alloc, shared.bells)?;
+    let (handing, writers) = make_writers(alloc, journal, shared)?;
+    let lookup = if wants_lookup { Some(lookup) } else { None };
+    Ok((Ends { handing, seeking }, Beside { writers, lookup }))
+}
+
 /// Hosts what this machine decides, by what it has of the system. This thread has the machine and the sockets, others write
 /// the journal if there is one. It returns when standard input has ended, if that is asked for, and else only for a fault.
 pub fn host<
@@ -228,30 +241,48 @@ pub fn host<
     M: Decides<P>,
 >(rt: &X, alloc: Global, machine: &mut M, outside: Outside) -> Result<(), HostFault> {
     let (poll, bells) = make_bells(rt)?;
+    let durable = durable_of(&outside.journal);
+    let shared = Shared {
+        bells: &bells,
+        durable: &durable,
+    };
+    host_with(rt, alloc, machine, poll, shared, outside)
+}
+
+/// Hosts, where the worker waits by this and its threads share that.
+fn host_with<
+    X: System + Net<Listener = net::TcpListener, Stream = net::TcpStream>,
+    P,
+    M: Decides<P>,
+>(
+    rt: &X,
+    alloc: Global,
+    machine: &mut M,
+    poll: Poll,
+    shared: Shared<'_>,
+    outside: Outside,
+) -> Result<(), HostFault> {
     let Outside {
         listener,
         peers,
         until_input_ends,
         journal,
     } = outside;
-    let durable = durable_of(&journal);
-    let shared = Shared {
-        bells: &bells,
-        durable: &durable,
-    };
-    let (handing, writers) = make_writers(alloc, journal, shared)?;
-    let (seeking, lookup) = make_lookup(alloc, &bells)?;
-    let count = u16::try_from(peers).unwrap_or(u16::MAX);
-    let lookup = if wants_lookup(machine, count) {
-        Some(lookup)
-    } else {
-        None
-    };
-    let ends = Ends { handing, seeking };
+    let (ends, beside) = make_beside(alloc, shared, journal, wants_lookup(machine, peers))?;
     let mut worker = make_worker(rt, alloc, poll, ends, listener, until_input_ends, peers)?;
     worker.act(rt, machine);
-    let beside = Beside { writers, lookup };
+    run_all(rt, machine, shared, beside, &mut worker)
+}
+
+/// Runs the worker and those beside it until it ends.
+fn run_all<X: System + Net<Listener = net::TcpListener, Stream = net::TcpStream>, P, M: Decides<P>>(
+    rt: &X,
+    machine: &mut M,
+    shared: Shared<'_>,
+    beside: Beside<'_>,
+    worker: &mut Worker,
+) -> Result<(), HostFault> {
     thread::scope(thread::scope_env(), rt, |scope| {
-        run_beside(scope, rt, shared, beside, &mut worker, machine)
+        run_beside(scope, rt, shared, beside, worker, machine)
     })
 }

@@ -49,7 +49,7 @@ pub(crate) struct Links {
 
 impl Links {
     /// So many peers, to which there is no connection.
-    pub(crate) fn new(alloc: Global, count: usize) -> Result<Links, AllocError> {
+    pub(crate) fn new(alloc: Global, count: u16) -> Result<Links, AllocError> {
         let mut places = Vec::new(alloc);
         for _ in 0..count {
             places.push(Place {

@@ -22,7 +22,7 @@ pub struct Outside {
     /// Where connections come in.
     pub listener: TcpListener,
     /// How many peers its machine has, at most 64.
-    pub peers: usize,
+    pub peers: u16,
     /// Whether the host ends with its standard input.
     pub until_input_ends: bool,
     /// The journal, whose records the machine's log has.

@@ -328,7 +328,7 @@ fn parted<T: Timeline>(
     } = prepared;
     let outside = Outside {
         listener,
-        peers: peers.len(),
+        peers: u16::try_from(peers.len()).unwrap_or(u16::MAX),
         until_input_ends,
         journal,
     };
