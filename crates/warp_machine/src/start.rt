@@ -1,6 +1,7 @@
 //! What a host is made of.
 
 use std::hash::RandomState;
+pub use warp_events::JournalSeen;
 use warp_hub::{Facts, PeerToken};
 use warp_line::Timeline;
 use warp_pages::Texts;
