@@ -143,9 +143,9 @@ impl<T: Timeline> Machine<T> {
 
     /// The next bytes to be written to a client; none where it is not there.
     pub fn output(&self, who: ClientId) -> &[u8]
-        ensures there { (c : ClientState) → slice_get self.now.clients.crowd.clients who.key ≡ Some c → IsMe who c
+        ensures there { (c : ClientState) → slice_get self.entry.now.clients.crowd.clients who.key ≡ Some c → IsMe who c
             → IsOutputOf result.now c }
-        ensures away { IsAway who self.now.clients.crowd.clients → result.now ≡ [] }
+        ensures away { IsAway who self.entry.now.clients.crowd.clients → result.now ≡ [] }
     {
         self.clients.output(who)
     }
@@ -224,7 +224,7 @@ impl<T: Timeline> Machine<T> {
 
     /// How many records the log has.
     pub fn len(&self) -> u32
-        ensures { result ≡ length self.now.clients.room.replica.records }
+        ensures { result ≡ length self.entry.now.clients.room.replica.records }
     {
         self.clients.room().len()
     }
@@ -238,7 +238,7 @@ impl<T: Timeline> Machine<T> {
         list: &mut Vec<Record>,
     ) -> Result<(), OutOfMemory>
         ensures ok { OnOk result (list.new.items
-            ≡ list.old.items ++ take most (drop count self.now.clients.room.replica.records)) }
+            ≡ list.old.items ++ take most (drop count self.entry.now.clients.room.replica.records)) }
         ensures err { OnErr result (list.new.items ≡ list.old.items) }
     {
         self.clients.room().records_behind(count, most, list)

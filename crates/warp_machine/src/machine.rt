@@ -161,7 +161,7 @@ impl<T: Timeline> Machine<T> {
         options: Options,
         now: u64,
     ) -> Machine<T>
-        ensures { result.clients ≡ clients.entry }
+        ensures { result.clients ≡ clients }
     {
         let most_records = clients.room().replica().program().form().most_records();
         let mut notes = VecDeque::new(alloc);
