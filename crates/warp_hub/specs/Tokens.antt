@@ -12,6 +12,11 @@ abbrev pub rights_of : List Entry → List ℕ → Option Rights
 rights_of [] digest = None
 rights_of (e ∷ entries) digest = if bytes_eq e.digest digest then Some e.rights else rights_of entries digest
 
+-- what was found, or else this
+abbrev pub or_else : Option Rights → Option Rights → Option Rights
+or_else None other = other
+or_else (Some rights) other = Some rights
+
 -- behind so many wrong tokens a client is over
 abbrev pub most_wrong : ℕ
 most_wrong = 3
