@@ -1,8 +1,13 @@
 //! What is told for who watches, and pushed to them.
 
+ghost use Rattle.std.specs.Prelude.{◌≡◌};
+ghost use Rattle.warp_replica.specs.Answered.{facts_of};
+ghost use Rattle.warp_machine.specs.Moving.{Moved};
+
 use crate::calls::MOST_UNREAD;
 use crate::machine::Machine;
-use warp_clients::ClientId;
+use crate::moves;
+use warp_clients::{ClientId, Watched};
 use warp_hub::Subject;
 use warp_line::Timeline;
 use warp_push::{
@@ -21,19 +26,30 @@ const MOST_PUSHED: usize = 1_048_576;
 
 impl<T: Timeline> Machine<T> {
     /// Notes who watches what from now on. Without memory a client is told nothing more.
-    pub(crate) fn note_watched(&mut self) {
+    pub(crate) fn note_watched(&mut self)
+        ensures { Moved (facts_of T.settled T.refused T.floor T.SLACK) self.old.clients self.new.clients }
+    {
         for _ in 0..MOST_WATCHED {
             let Some(watched) = self.clients.watched() else {
                 return;
             };
-            if !self.watchers.note(watched.who, &watched.word) {
-                self.clients.stop(watched.who);
-            }
+            self.note_one(&watched);
+        }
+    }
+
+    /// Notes what a client watches from now on. Without memory it is told nothing more.
+    fn note_one(&mut self, watched: &Watched)
+        ensures { Moved (facts_of T.settled T.refused T.floor T.SLACK) self.old.clients self.new.clients }
+    {
+        if !self.watchers.note(watched.who, &watched.word) {
+            moves::stop(&mut self.clients, watched.who);
         }
     }
 
     /// Tells what is due for who watches, where all is executed, and pushes what may be told.
-    pub(crate) fn tell_watchers(&mut self) {
+    pub(crate) fn tell_watchers(&mut self)
+        ensures { Moved (facts_of T.settled T.refused T.floor T.SLACK) self.old.clients self.new.clients }
+    {
         self.hand_told();
         for _ in 0..MOST_PAGES {
             if !self.tell_some() {
@@ -45,7 +61,9 @@ impl<T: Timeline> Machine<T> {
     }
 
     /// Tells what is due for who watches, as far as it may wait; whether anything was.
-    fn tell_some(&mut self) -> bool {
+    fn tell_some(&mut self) -> bool
+        ensures { Moved (facts_of T.settled T.refused T.floor T.SLACK) self.old.clients self.new.clients }
+    {
         for count in 0..MOST_TOLD {
             if !self.clients.room().is_settled() || !self.watchers.has_room() {
                 return count > 0;
@@ -61,8 +79,10 @@ impl<T: Timeline> Machine<T> {
     }
 
     /// Tells what is asked; whether it was told. Where not, it is asked again.
-    fn tell_one(&mut self, asked: Asked) -> bool {
-        let Ok(told) = self.clients.tell(asked.question) else {
+    fn tell_one(&mut self, asked: Asked) -> bool
+        ensures { Moved (facts_of T.settled T.refused T.floor T.SLACK) self.old.clients self.new.clients }
+    {
+        let Some(told) = moves::tell(&mut self.clients, &asked) else {
             self.watchers.missed(&asked);
             return false;
         };
@@ -76,7 +96,9 @@ impl<T: Timeline> Machine<T> {
     }
 
     /// What is to be told next for who watches, which is on its way then.
-    fn next_asked(&mut self) -> Option<Asked> {
+    fn next_asked(&mut self) -> Option<Asked>
+        ensures { self.new.clients ≡ self.old.clients }
+    {
         // Also records count whose client has gone.
         let newest = self.newest().max(self.clients.room().len().min(self.limit));
         if let Some(question) = self.watchers.due(newest) {
@@ -89,7 +111,9 @@ impl<T: Timeline> Machine<T> {
     }
 
     /// The next page of its own that a client wants, which is on its way then.
-    fn next_own(&mut self) -> Option<Asked> {
+    fn next_own(&mut self) -> Option<Asked>
+        ensures { self.new.clients ≡ self.old.clients }
+    {
         for _ in 0..self.watchers.wanting() {
             let who = self.watchers.next_wanting()?;
             if let Some(question) = self.own_page(who) {
@@ -103,7 +127,9 @@ impl<T: Timeline> Machine<T> {
     }
 
     /// The page of its own that a client wants, where it has read most of what it was pushed.
-    fn own_page(&mut self, who: ClientId) -> Option<Question> {
+    fn own_page(&mut self, who: ClientId) -> Option<Question>
+        ensures { self.new.clients ≡ self.old.clients }
+    {
         if self.clients.is_stopped(who) || self.clients.unread(who) >= MOST_UNREAD {
             return None;
         }
@@ -111,7 +137,9 @@ impl<T: Timeline> Machine<T> {
     }
 
     /// Pushes what was told, as far as it may be.
-    fn hand_told(&mut self) {
+    fn hand_told(&mut self)
+        ensures { Moved (facts_of T.settled T.refused T.floor T.SLACK) self.old.clients self.new.clients }
+    {
         for _ in 0..MOST_TOLD {
             let Some(answered) = self.watchers.next_within(self.limit) else {
                 return;
@@ -121,7 +149,9 @@ impl<T: Timeline> Machine<T> {
     }
 
     /// Pushes what was told.
-    fn push_told(&mut self, answered: &Answered) {
+    fn push_told(&mut self, answered: &Answered)
+        ensures { Moved (facts_of T.settled T.refused T.floor T.SLACK) self.old.clients self.new.clients }
+    {
         self.counted.newest = self.counted.newest.max(answered.len());
         let Some(pushing) = self.watchers.pushing(answered) else {
             return;
@@ -131,7 +161,9 @@ impl<T: Timeline> Machine<T> {
     }
 
     /// Pushes news of a thing, to one watcher or to all.
-    pub(crate) fn push_news(&mut self, pushing: &Pushing) {
+    pub(crate) fn push_news(&mut self, pushing: &Pushing)
+        ensures { Moved (facts_of T.settled T.refused T.floor T.SLACK) self.old.clients self.new.clients }
+    {
         match pushing.who {
             Some(who) => {
                 let _watches = self.push_to(who, pushing);
@@ -141,7 +173,9 @@ impl<T: Timeline> Machine<T> {
     }
 
     /// Pushes news of a thing to all that watch it; who watches it no longer leaves its list.
-    fn push_to_all(&mut self, pushing: &Pushing) {
+    fn push_to_all(&mut self, pushing: &Pushing)
+        ensures { Moved (facts_of T.settled T.refused T.floor T.SLACK) self.old.clients self.new.clients }
+    {
         // From the last on: what stands in the place of one that left was looked at.
         let count = self.watchers.count(pushing.subject);
         for behind in 0..count {
@@ -150,7 +184,9 @@ impl<T: Timeline> Machine<T> {
     }
 
     /// Pushes news to who stands at this place of the list of watchers, or takes it off.
-    fn push_at(&mut self, at: usize, pushing: &Pushing) {
+    fn push_at(&mut self, at: usize, pushing: &Pushing)
+        ensures { Moved (facts_of T.settled T.refused T.floor T.SLACK) self.old.clients self.new.clients }
+    {
         let watches = match self.watchers.watcher(pushing.subject, at) {
             Some(who) => self.push_to(who, pushing),
             None => false,
@@ -161,7 +197,9 @@ impl<T: Timeline> Machine<T> {
     }
 
     /// Pushes news of a thing to a client, as far as it was not pushed them. Whether it watches it.
-    fn push_to(&mut self, who: ClientId, pushing: &Pushing) -> bool {
+    fn push_to(&mut self, who: ClientId, pushing: &Pushing) -> bool
+        ensures { Moved (facts_of T.settled T.refused T.floor T.SLACK) self.old.clients self.new.clients }
+    {
         let unread = self.clients.unread(who);
         let given = self
             .watchers
@@ -174,7 +212,9 @@ impl<T: Timeline> Machine<T> {
     }
 
     /// Pushes to a client what it was given of news with this text.
-    fn push_given(&mut self, who: ClientId, given: Given, len: u32, text: &[u8]) {
+    fn push_given(&mut self, who: ClientId, given: Given, len: u32, text: &[u8])
+        ensures { Moved (facts_of T.settled T.refused T.floor T.SLACK) self.old.clients self.new.clients }
+    {
         if given.skipped > 0 {
             self.push(who, len, &skipped_line(given.skipped));
         }
@@ -187,19 +227,30 @@ impl<T: Timeline> Machine<T> {
     }
 
     /// Pushes whole lines to a client. Where too many bytes wait behind it, it is told so at last, and nothing more.
-    fn push(&mut self, who: ClientId, len: u32, text: &[u8]) {
-        if text.is_empty() || !self.clients.push(who, len, text) {
+    fn push(&mut self, who: ClientId, len: u32, text: &[u8])
+        ensures { Moved (facts_of T.settled T.refused T.floor T.SLACK) self.old.clients self.new.clients }
+    {
+        if text.is_empty() || !moves::push(&mut self.clients, who, len, text) {
             return;
         }
         if self.clients.unread(who) > MOST_PUSHED {
-            self.counted.slow = self.counted.slow.saturating_add(1);
-            let _ = self.clients.push(who, 0, GONE_SLOW);
-            self.clients.stop(who);
+            self.give_up(who);
         }
     }
 
+    /// Too many bytes wait for a client: it is told so at last, and nothing more.
+    fn give_up(&mut self, who: ClientId)
+        ensures { Moved (facts_of T.settled T.refused T.floor T.SLACK) self.old.clients self.new.clients }
+    {
+        self.counted.slow = self.counted.slow.saturating_add(1);
+        let _is_pushed = moves::push(&mut self.clients, who, 0, GONE_SLOW);
+        moves::stop(&mut self.clients, who);
+    }
+
     /// Pushes how many lines of steps were left out for a client, where some were and not much waits for it.
-    pub(crate) fn push_skipped(&mut self, who: ClientId) {
+    pub(crate) fn push_skipped(&mut self, who: ClientId)
+        ensures { Moved (facts_of T.settled T.refused T.floor T.SLACK) self.old.clients self.new.clients }
+    {
         if !self.watchers.are_steps_watched() {
             return;
         }

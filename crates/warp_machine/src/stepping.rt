@@ -1,7 +1,11 @@
 //! What the room executes, step by step, while somebody watches it.
+ghost use Rattle.std.specs.Prelude.{◌≡◌};
+ghost use Rattle.warp_replica.specs.Answered.{facts_of};
 ghost use Rattle.warp_step.specs.Counter.{IsUnused};
+ghost use Rattle.warp_machine.specs.Moving.{Moved};
 
 use crate::machine::Machine;
+use crate::moves;
 use crate::start::LastDone;
 use std::marker::Brand;
 use std::sync::ledger::{Blank, Ledger};
@@ -19,7 +23,9 @@ const MOST_ALONE: u32 = 1_024;
 
 impl<T: Timeline> Machine<T> {
     /// Has the room answer lines one by one, and notes the steps of each.
-    pub(crate) fn work_noted<P: LastDone<T>>(&mut self) -> Worked {
+    pub(crate) fn work_noted<P: LastDone<T>>(&mut self) -> Worked
+        ensures { Moved (facts_of T.settled T.refused T.floor T.SLACK) self.old.clients self.new.clients }
+    {
         match self.labels.take() {
             Some(labels) => self.work_counted::<P, Brand>(labels, Blank::new(1)),
             None => Worked::Idle,
@@ -29,6 +35,7 @@ impl<T: Timeline> Machine<T> {
     /// The same. Steps are counted in the ledger that `blank` opens, for contracts alone.
     fn work_counted<P: LastDone<T>, L: Ledger>(&mut self, labels: Labels, blank: Blank) -> Worked
         requires { IsUnused blank L.name L.parts }
+        ensures { Moved (facts_of T.settled T.refused T.floor T.SLACK) self.old.clients self.new.clients }
     {
         let mut notes = StepNotes::<L>::new(self.alloc, labels, blank);
         let worked = self.answer_each::<P, L>(&mut notes);
@@ -41,7 +48,9 @@ impl<T: Timeline> Machine<T> {
     }
 
     /// Has the room answer lines, and notes the steps of each.
-    fn answer_each<P: LastDone<T>, L: Ledger>(&mut self, notes: &mut StepNotes<L>) -> Worked {
+    fn answer_each<P: LastDone<T>, L: Ledger>(&mut self, notes: &mut StepNotes<L>) -> Worked
+        ensures { Moved (facts_of T.settled T.refused T.floor T.SLACK) self.old.clients self.new.clients }
+    {
         for _ in 0..MOST_ALONE {
             let worked = self.answer_noted::<P, L>(notes);
             if worked != Worked::More {
@@ -52,25 +61,41 @@ impl<T: Timeline> Machine<T> {
     }
 
     /// Has the room answer a line, and notes the steps of it.
-    fn answer_noted<P: LastDone<T>, L: Ledger>(&mut self, notes: &mut StepNotes<L>) -> Worked {
-        if !self.clients.room().is_settled() && !self.execute() {
-            return self.lack();
-        }
-        if !self.clients.room().is_settled() {
-            return Worked::More;
+    fn answer_noted<P: LastDone<T>, L: Ledger>(&mut self, notes: &mut StepNotes<L>) -> Worked
+        ensures { Moved (facts_of T.settled T.refused T.floor T.SLACK) self.old.clients self.new.clients }
+    {
+        if let Some(worked) = self.settle() {
+            return worked;
         }
         let _shown = self.show();
         let room = self.steps.room();
         notes.begin_within(P::last_done(self.clients.room().replica().timeline()), room);
-        let worked = self.clients.work(1, 0);
+        let worked = moves::work(&mut self.clients, 1, 0);
         if worked != Worked::More {
             return worked;
         }
         let back = P::last_done(self.clients.room().replica().timeline());
-        let _ = self.clients.execute(u64::MAX, notes);
+        moves::execute(&mut self.clients, notes);
         let len = self.clients.room().len();
         self.keep_noted(len, room > 0, back, notes);
         Worked::More
+    }
+
+    /// Makes steps that were left: what the room does then, where it does not go on. A line that waits for them is refused
+    /// without memory.
+    fn settle(&mut self) -> Option<Worked>
+        ensures { Moved (facts_of T.settled T.refused T.floor T.SLACK) self.old.clients self.new.clients }
+    {
+        if self.clients.room().is_settled() {
+            return None;
+        }
+        if !self.execute() {
+            return Some(self.lack());
+        }
+        if self.clients.room().is_settled() {
+            return None;
+        }
+        Some(Worked::More)
     }
 
     /// Keeps what was noted of a line, at this length of the log. Where there was no room for it, it is left out.
@@ -80,7 +105,9 @@ impl<T: Timeline> Machine<T> {
         has_room: bool,
         back: Option<Tag>,
         notes: &mut StepNotes<L>,
-    ) {
+    )
+        ensures { self.new.clients ≡ self.old.clients }
+    {
         let mut text = Vec::new(self.alloc);
         if notes.take(back, &mut text).is_err() {
             self.steps.leave_out(notes.steps());
@@ -90,7 +117,9 @@ impl<T: Timeline> Machine<T> {
     }
 
     /// Pushes what was noted, as far as it may be told.
-    pub(crate) fn hand_steps(&mut self) {
+    pub(crate) fn hand_steps(&mut self)
+        ensures { Moved (facts_of T.settled T.refused T.floor T.SLACK) self.old.clients self.new.clients }
+    {
         for _ in 0..MOST_TIMES {
             let Some(executed) = self.steps.next_within(self.limit) else {
                 return;
@@ -100,7 +129,9 @@ impl<T: Timeline> Machine<T> {
     }
 
     /// Pushes lines of steps. Where there is no memory for them they are left out too.
-    fn push_steps(&mut self, executed: &Executed) {
+    fn push_steps(&mut self, executed: &Executed)
+        ensures { Moved (facts_of T.settled T.refused T.floor T.SLACK) self.old.clients self.new.clients }
+    {
         if let Some(pushing) = self.steps.pushing(executed) {
             self.push_news(&pushing);
         }

@@ -1,5 +1,5 @@
 //! What a client watches, and how far it was pushed.
-ghost use Rattle.std.specs.Prelude.{◌≡◌};
+ghost use Rattle.std.specs.Prelude.{◌≡◌, None, false};
 ghost use Rattle.warp_push.specs.Marks as marks;
 ghost use Rattle.warp_push.specs.Pages as pages;
 
@@ -72,7 +72,9 @@ pub(crate) struct Cursor {
 
 impl Cursor {
     /// Nothing was pushed yet.
-    fn new(next: u32, is_asked: bool) -> Cursor {
+    fn new(next: u32, is_asked: bool) -> Cursor
+        ensures { result ≡ record { next = next; is_done = false; is_asked = is_asked } }
+    {
         Cursor {
             next,
             is_done: false,
@@ -185,7 +187,9 @@ fn steps_of(left_out: &mut u64, news: News, unread: usize) -> Given {
 }
 
 /// The same; none where nobody watches.
-fn take_steps(left_out: &mut Option<u64>, news: News, unread: usize) -> Option<Given> {
+fn take_steps(left_out: &mut Option<u64>, news: News, unread: usize) -> Option<Given>
+    ensures { left_out.old ≡ None → result ≡ None }
+{
     let Some(left_out) = left_out else {
         return None;
     };

@@ -1,5 +1,9 @@
 //! Who watches what, what is asked for them, what was told, and what is pushed of it.
 
+ghost use Rattle.std.specs.Prelude.{◌≡◌, ◌≤◌, [], IfSome, None, OnErr, OnOk, false};
+ghost use Rattle.warp_push.specs.Seats.{GetsSeat, Grows, IsAway, IsThere, May, Notes, Takes, Watches, WatchesNothing};
+ghost use Rattle.warp_push.specs.Marks as marks;
+
 use crate::lists::Lists;
 use crate::marks::{Given, News, Unpushed, subject_of};
 use crate::page::page_text;
@@ -7,6 +11,7 @@ use crate::places::Places;
 use crate::shared::{Latest, NO_TAIL, Tail};
 use std::alloc::{AllocError, Global};
 use std::collections::VecDeque;
+use std::marker::Model;
 use warp_hub::{Subject, Watch, Word};
 use warp_watch::{ClientId, Question, Told};
 
@@ -55,7 +60,9 @@ pub struct Pushing {
 
 impl Pushing {
     /// News of this text for all that watch a thing.
-    pub(crate) fn to_all(subject: Subject, news: News, len: u32, text: Vec<u8>) -> Pushing {
+    pub(crate) fn to_all(subject: Subject, news: News, len: u32, text: Vec<u8>) -> Pushing
+        ensures { result ≡ record { who = None; subject = subject; news = news; len = len; text = text; each = false } }
+    {
         Pushing {
             who: None,
             subject,
@@ -84,9 +91,20 @@ pub struct Watchers {
     told: VecDeque<Answered>,
 }
 
+impl Model for Watchers {
+    ghost use Rattle.std.specs.Prelude.{List};
+    ghost use Rattle.warp_push.specs.Seats.{Seat};
+
+    ghost Value = { List Seat };
+
+    ghost view = { λ w. w.places };
+}
+
 impl Watchers {
     /// Nobody watches.
-    pub fn new(alloc: Global) -> Watchers {
+    pub fn new(alloc: Global) -> Watchers
+        ensures { result ≡ [] }
+    {
         Watchers {
             alloc,
             places: Places::new(alloc),
@@ -102,12 +120,17 @@ impl Watchers {
     }
 
     /// Gives a client its place, in which it watches nothing; `Err` where there is no memory for it.
-    pub fn place(&mut self, who: ClientId) -> Result<(), AllocError> {
+    pub fn place(&mut self, who: ClientId) -> Result<(), AllocError>
+        ensures ok { OnOk result (GetsSeat who self.old self.new) }
+        ensures err { OnErr result (Grows self.old self.new) }
+    {
         self.places.place(who)
     }
 
     /// A client is gone: it watches nothing.
-    pub fn leave(&mut self, who: ClientId) {
+    pub fn leave(&mut self, who: ClientId)
+        ensures { May who WatchesNothing self.old self.new }
+    {
         self.places.clear(who);
     }
 
@@ -117,7 +140,9 @@ impl Watchers {
     }
 
     /// A client said this word, which begins or ends a watch; whether there was memory.
-    pub fn note(&mut self, who: ClientId, word: &Word) -> bool {
+    pub fn note(&mut self, who: ClientId, word: &Word) -> bool
+        ensures { Notes who word.now self.old self.new }
+    {
         match *word {
             Word::Watch(watch) => self.begin(who, watch),
             Word::Unwatch(subject) => {
@@ -135,7 +160,9 @@ impl Watchers {
     }
 
     /// A client begins to watch; whether there was memory.
-    fn begin(&mut self, who: ClientId, watch: Watch) -> bool {
+    fn begin(&mut self, who: ClientId, watch: Watch) -> bool
+        ensures { May who (Watches (marks.marks_with watch)) self.old self.new }
+    {
         let Some(unpushed) = self.places.begin(who, watch) else {
             return true;
         };
@@ -144,14 +171,18 @@ impl Watchers {
     }
 
     /// Some watcher was not pushed any of these values.
-    fn want_values(&mut self, unpushed: Unpushed) {
+    fn want_values(&mut self, unpushed: Unpushed)
+        ensures { self.new ≡ self.old }
+    {
         self.vars.want(unpushed.vars);
         self.horizon.want(unpushed.horizon);
         self.breach.want(unpushed.breach);
     }
 
     /// Puts a client into a list of watchers, once; whether there was memory.
-    fn enlist(&mut self, who: ClientId, subject: Subject) -> bool {
+    fn enlist(&mut self, who: ClientId, subject: Subject) -> bool
+        ensures { self.new ≡ self.old }
+    {
         if !self.places.enlist(who, subject) {
             return true;
         }
@@ -159,7 +190,9 @@ impl Watchers {
     }
 
     /// The client of this key may want pages of its own; whether there was memory.
-    pub fn want(&mut self, key: u32) -> bool {
+    pub fn want(&mut self, key: u32) -> bool
+        ensures { self.new ≡ self.old }
+    {
         if !self.places.may_want(key) {
             return true;
         }
@@ -169,14 +202,18 @@ impl Watchers {
     }
 
     /// All watchers of pages may want their own.
-    fn want_all(&mut self, subject: Subject) {
+    fn want_all(&mut self, subject: Subject)
+        ensures { self.new ≡ self.old }
+    {
         for at in 0..self.lists.count(subject) {
             self.want_at(subject, at);
         }
     }
 
     /// Who stands at this place of a list of watchers may want pages of its own.
-    fn want_at(&mut self, subject: Subject, at: usize) {
+    fn want_at(&mut self, subject: Subject, at: usize)
+        ensures { self.new ≡ self.old }
+    {
         let Some(key) = self.lists.key(subject, at) else {
             return;
         };
@@ -189,7 +226,10 @@ impl Watchers {
     }
 
     /// The next that may want pages of its own; it stands among them no more.
-    pub fn next_wanting(&mut self) -> Option<ClientId> {
+    pub fn next_wanting(&mut self) -> Option<ClientId>
+        ensures same { self.new ≡ self.old }
+        ensures there { IfSome result (λ who. IsThere who (λ s. Unit {0}) self.new) }
+    {
         let key = self.wanting.pop_front()?;
         self.places.set_wanting(key, false);
         self.places.who(key)
@@ -240,7 +280,9 @@ impl Watchers {
     }
 
     /// The next question that is due for all watchers of a thing, at this length of the log.
-    pub fn due(&mut self, newest: u32) -> Option<Question> {
+    pub fn due(&mut self, newest: u32) -> Option<Question>
+        ensures { self.new ≡ self.old }
+    {
         if let Some(question) = self.page_due(newest) {
             return Some(question);
         }
@@ -248,7 +290,9 @@ impl Watchers {
     }
 
     /// The next page that is due for all watchers.
-    fn page_due(&mut self, newest: u32) -> Option<Question> {
+    fn page_due(&mut self, newest: u32) -> Option<Question>
+        ensures { self.new ≡ self.old }
+    {
         if self.lists.is_any(Subject::Log) {
             if let Some(from) = self.log.due(newest) {
                 return Some(Question::Log { from, until: 0 });
@@ -262,7 +306,9 @@ impl Watchers {
     }
 
     /// The next value that is due for all watchers.
-    fn value_due(&mut self, newest: u32) -> Option<Question> {
+    fn value_due(&mut self, newest: u32) -> Option<Question>
+        ensures { self.new ≡ self.old }
+    {
         if self.lists.is_any(Subject::Vars) {
             if let Some(question) = self.vars.due(newest) {
                 return Some(question);
@@ -306,7 +352,9 @@ impl Watchers {
     }
 
     /// A page for all does not come.
-    fn miss_tail(&mut self, subject: Subject) {
+    fn miss_tail(&mut self, subject: Subject)
+        ensures { self.new ≡ self.old }
+    {
         match subject {
             Subject::Log => self.log.missed(),
             _ => self.released.missed(),
@@ -326,7 +374,10 @@ impl Watchers {
     }
 
     /// What was told first, if it is of a log of no more records than so many.
-    pub fn next_within(&mut self, limit: u32) -> Option<Answered> {
+    pub fn next_within(&mut self, limit: u32) -> Option<Answered>
+        ensures same { self.new ≡ self.old }
+        ensures within { IfSome result (λ one. one.told.len ≤ limit) }
+    {
         let first = self.told.front()?;
         if first.told.len > limit {
             return None;
@@ -383,7 +434,9 @@ impl Watchers {
     }
 
     /// What a page says of where the watchers are. Whether each is to ask for its own from now on.
-    fn learn(&mut self, subject: Subject, from: u32, until: u32, answered: &Answered) -> bool {
+    fn learn(&mut self, subject: Subject, from: u32, until: u32, answered: &Answered) -> bool
+        ensures { self.new ≡ self.old }
+    {
         let told = &answered.told;
         let mut tail = self.tail(subject);
         let mut each = false;
@@ -396,7 +449,9 @@ impl Watchers {
     }
 
     /// This is known of where the watchers of pages are.
-    fn set_tail(&mut self, subject: Subject, tail: Tail) {
+    fn set_tail(&mut self, subject: Subject, tail: Tail)
+        ensures { self.new ≡ self.old }
+    {
         match subject {
             Subject::Log => self.log = tail,
             _ => self.released = tail,
@@ -404,7 +459,10 @@ impl Watchers {
     }
 
     /// The newest value of a thing that is pushed to all that were not pushed it.
-    fn value(&mut self, subject: Subject, told: &Told) -> Option<Pushing> {
+    fn value(&mut self, subject: Subject, told: &Told) -> Option<Pushing>
+        ensures same { self.new ≡ self.old }
+        ensures of { IfSome result (λ one. (one.len ≡ told.now.len) × (one.who ≡ None)) }
+    {
         match subject {
             Subject::Vars => value_of(&mut self.vars, self.alloc, subject, told),
             Subject::Horizon => value_of(&mut self.horizon, self.alloc, subject, told),
@@ -413,7 +471,9 @@ impl Watchers {
     }
 
     /// This was pushed: who wants pages of its own behind it stands among those that may.
-    pub fn pushed(&mut self, pushing: &Pushing) {
+    pub fn pushed(&mut self, pushing: &Pushing)
+        ensures { self.new ≡ self.old }
+    {
         if let Some(who) = pushing.who {
             let _is_noted = self.want(who.key);
             return;
@@ -429,13 +489,17 @@ impl Watchers {
     }
 
     /// Who stands at this place of a list of watchers.
-    pub fn watcher(&self, subject: Subject, at: usize) -> Option<ClientId> {
+    pub fn watcher(&self, subject: Subject, at: usize) -> Option<ClientId>
+        ensures { IfSome result (λ who. IsThere who (λ s. Unit {0}) self.now) }
+    {
         let key = self.lists.key(subject, at)?;
         self.places.who(key)
     }
 
     /// Who stands at this place of a list watches no longer: it leaves the list.
-    pub fn drop_at(&mut self, subject: Subject, at: usize) {
+    pub fn drop_at(&mut self, subject: Subject, at: usize)
+        ensures { self.new ≡ self.old }
+    {
         let Some(key) = self.lists.remove(subject, at) else {
             return;
         };
@@ -450,7 +514,10 @@ impl Watchers {
         subject: Subject,
         news: News,
         unread: usize,
-    ) -> Option<Given> {
+    ) -> Option<Given>
+        ensures takes { May who (Takes subject news result) self.old self.new }
+        ensures away { IsAway who self.old → result ≡ None }
+    {
         self.places.take(who, subject, news, unread)
     }
 }

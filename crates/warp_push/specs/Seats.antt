@@ -1,0 +1,81 @@
+-- Clients by their keys: what each watches.
+use Rattle.std.specs.Prelude.{◌≡◌, ◌⊎◌, ◌<◌, ◌+◌, ℕ, List, ◌++◌, Option, None, Some, length, replicate, slice_get, slice_set}
+use Rattle.warp_hub.specs.declared.words.Subject.{Subject}
+use Rattle.warp_hub.specs.declared.words.Word.{Word}
+use Rattle.warp_hub.specs.declared.words.Word.TheVariants as word
+use Rattle.warp_watch.specs.declared.client_id.ClientId.{ClientId}
+use Rattle.warp_push.specs.declared.marks.Given.{Given}
+use Rattle.warp_push.specs.declared.marks.Marks.{Marks}
+use Rattle.warp_push.specs.declared.marks.News.{News}
+use Rattle.warp_push.specs.Marks.{AreMarksBehind, IsGivenOf, marks_with, marks_without}
+
+-- a place's use, and what its client watches
+pub record Seat : Type 0 where
+  pub round : ℕ
+  pub marks : Marks
+
+-- nothing is watched
+abbrev pub no_marks : Marks
+no_marks = record { log = None; released = None; vars = None; horizon = None; breach = None; steps = None }
+
+-- a place that nobody has had
+abbrev pub empty_seat : Seat
+empty_seat = record { round = 0; marks = no_marks }
+
+-- that of a client which watches nothing
+abbrev pub fresh_seat : ClientId → Seat
+fresh_seat who = record { round = who.round; marks = no_marks }
+
+-- it is that of this client
+abbrev pub IsMe : ClientId → Seat → Type 0
+IsMe who s = s.round ≡ who.round
+
+-- the client has its place, and of it this is so
+abbrev pub IsThere : ClientId → (Seat → Type 0) → List Seat → Type 0
+IsThere who P seats = (s : Seat) × (slice_get seats who.key ≡ Some s) × IsMe who s × P s
+
+-- it has none
+abbrev pub IsAway : ClientId → List Seat → Type 0
+IsAway who seats = (s : Seat) → slice_get seats who.key ≡ Some s → IsMe who s → ⊥
+
+-- what it watches becomes this; all other places stay
+abbrev pub Becomes : ClientId → (Seat → Seat → Type 0) → List Seat → List Seat → Type 0
+Becomes who R old new =
+    (s : Seat) × (s' : Seat) × (slice_get old who.key ≡ Some s) × IsMe who s × R s s' × (new ≡ slice_set old who.key s')
+
+-- the same, or it has none and nothing changes
+abbrev pub May : ClientId → (Seat → Seat → Type 0) → List Seat → List Seat → Type 0
+May who R old new = Becomes who R old new ⊎ (IsAway who old × (new ≡ old))
+
+-- what it watches is this from now on
+abbrev pub Watches : (Marks → Marks) → Seat → Seat → Type 0
+Watches f s s' = s' ≡ record s { marks = f s.marks }
+
+-- it watches nothing
+abbrev pub WatchesNothing : Seat → Seat → Type 0
+WatchesNothing s s' = s' ≡ record s { marks = no_marks }
+
+-- these news of a thing give it this, and count as pushed
+abbrev pub Takes : Subject → News → Option Given → Seat → Seat → Type 0
+Takes subject n given s s' =
+    IsGivenOf subject n s.marks given × AreMarksBehind subject n s.marks s'.marks × (s'.round ≡ s.round)
+
+-- places were made that nobody has had
+abbrev pub Grows : List Seat → List Seat → Type 0
+Grows old new = (n : ℕ) × (new ≡ old ++ replicate n empty_seat)
+
+-- the client gets its place, in which it watches nothing; all other places stay
+abbrev pub GetsSeat : ClientId → List Seat → List Seat → Type 0
+GetsSeat who old new = (grown : List Seat) × Grows old grown × (who.key < length grown) × (new ≡ slice_set grown who.key (fresh_seat who))
+
+-- a client said this word
+abbrev pub Notes : ClientId → Word → List Seat → List Seat → Type 0
+Notes who (word.Watch watch) old new = May who (Watches (marks_with watch)) old new
+Notes who (word.Unwatch subject) old new = May who (Watches (marks_without subject)) old new
+Notes who word.Program old new = new ≡ old
+Notes who word.Names old new = new ≡ old
+Notes who word.Vars old new = new ≡ old
+Notes who word.Releases old new = new ≡ old
+Notes who (word.Release number) old new = new ≡ old
+Notes who (word.Counts origin) old new = new ≡ old
+Notes who (word.Reached origin) old new = new ≡ old
