@@ -1,12 +1,11 @@
-//! What a host is asked to do.
+//! What a host has of the system, and what is asked of it there.
 
 ghost use Rattle.std.specs.Prelude.{◌↔◌, IsTrue};
 ghost use Rattle.warp_host.specs.Listening.{MayListen};
 
+use mio::net::TcpListener;
 use std::net::IpAddr;
 use warp_disk::OpenJournal;
-use warp_hub::Tokens;
-use warp_machine::PeerAt;
 
 /// The most clients at a time, where no number is given.
 pub const DEFAULT_CLIENTS: u32 = 1_024;
@@ -17,20 +16,16 @@ pub const MOST_CLIENTS: u32 = 15_000;
 /// The most peers.
 pub const MOST_PEERS: usize = 64;
 
-/// What a host is asked to do, beside its program and the texts on it.
+/// What a host has of the system, and what is asked of it there.
 #[derive(Drop)]
-pub struct Options {
-    /// The version of the program that hosts, which an operator is told.
-    pub version: &'static str,
-    /// How many clients there may be at a time, 1 to 15,000.
-    pub clients: u32,
-    /// Who may use HTTP; without tokens everybody may.
-    pub tokens: Option<Tokens>,
-    /// The peers, at most 64.
-    pub peers: Vec<PeerAt>,
+pub struct Outside {
+    /// Where connections come in.
+    pub listener: TcpListener,
+    /// How many peers its machine has, at most 64.
+    pub peers: u16,
     /// Whether the host ends with its standard input.
     pub until_input_ends: bool,
-    /// The journal, whose records the replica has taken.
+    /// The journal, whose records the machine's log has.
     pub journal: Option<OpenJournal>,
 }
 

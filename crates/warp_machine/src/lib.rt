@@ -8,6 +8,7 @@ mod calls;
 mod caring;
 mod conn;
 mod conns;
+mod deciding;
 mod machine;
 mod moves;
 mod peering;
@@ -16,8 +17,9 @@ mod start;
 mod stepping;
 mod turning;
 
-pub use action::{Action, Ending};
+pub use deciding::{Drives, drive};
 pub use machine::Machine;
-pub use start::{JournalSeen, LastDone, Options, PeerAt, Start};
-pub use warp_clients::ClientId;
-pub use warp_service::{Named, Note, NoteText, PeerAction};
+pub use start::{LastDone, Options, PeerAt, Start};
+pub use warp_events::{
+    Action, ClientId, Decides, Ending, JournalSeen, Named, Note, NoteText, PeerAction,
+};

@@ -14,7 +14,7 @@ use std::collections::VecDeque;
 use warp_clients::Clients;
 use warp_hub::Rights;
 use warp_line::Timeline;
-use warp_pages::{Pages, Stopwatch};
+use warp_pages::{Pages, Seen, Stopwatch};
 use warp_push::{Steps, Watchers};
 use warp_room::Room;
 use warp_service::{Named, Note, Peer, Timers};
@@ -129,7 +129,7 @@ impl<T: Timeline> Machine<T> {
             replica,
             mut facts,
             labels,
-            pages,
+            texts,
             peers,
             options,
         } = start;
@@ -140,6 +140,8 @@ impl<T: Timeline> Machine<T> {
         let Ok(program) = Vec::from_slice(alloc, &facts.program) else {
             return Err(OutOfMemory);
         };
+        let seen = Seen::nothing(u64::from(options.wanted), u64::from(form.most_records()));
+        let pages = Pages::new(alloc, texts, seen)?;
         let room = Room::new(alloc, replica, MOST_LINES, MOST_ANSWERS);
         let clients = Clients::new(alloc, keys, room, facts);
         let mut machine = Machine::over(alloc, clients, labels, pages, program, options, now);

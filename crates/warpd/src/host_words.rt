@@ -18,8 +18,9 @@ use std::io::{Eprint, Read};
 use std::net::{Ipv4Addr, SocketAddr};
 use std::os::unix::fs::{MetadataExt, PermissionsExt};
 use warp_disk::SyncWhen;
-use warp_host::{DEFAULT_CLIENTS, MOST_PEERS, PeerAt, may_listen};
+use warp_host::{DEFAULT_CLIENTS, MOST_PEERS, may_listen};
 use warp_hub::PeerToken;
+use warp_machine::PeerAt;
 use warp_words::HostJob;
 
 /// The port that is listened on where none is given.

@@ -13,12 +13,15 @@ use crate::telling::tell_listen;
 use arrayvec::ArrayString;
 use mio::net::TcpListener;
 use std::alloc::{AllocError, Global};
+use std::hash::RandomState;
 use std::net::{self, IpAddr, Net, SocketAddr};
 use warp_disk::{FirstLines, OpenJournal, open_journal};
-use warp_host::{Names, Options, Served, host};
-use warp_hub::Facts;
+use warp_host::{HostFault, Outside, begin, clients_within, host};
+use warp_hub::{Facts, Tokens};
 use warp_journal::{first_line, old_first_line};
 use warp_line::Timeline;
+use warp_machine::{Drives, Machine, Options, PeerAt, Start, drive};
+use warp_pages::{Names, Texts};
 use warp_replica::Replica;
 use warp_session::{Sink, Source, write_all};
 use warp_trace::Labels;
@@ -27,17 +30,21 @@ use warp_words::HostJob;
 /// The version that an operator is told: what `--version` prints.
 const VERSION: &str = "1.2.0";
 
-/// All that a host needs before it listens.
+/// All that a host needs before it listens: what its machine begins with, and what it has of the system.
 #[derive(Drop)]
 struct Prepared<T: Timeline> {
     replica: Replica<T>,
     facts: Facts,
     labels: Labels,
-    options: Options,
+    peers: Vec<PeerAt>,
+    clients: u32,
+    tokens: Option<Tokens>,
     bytes: Vec<u8>,
     names_json: Vec<u8>,
     origins: Vec<String>,
     address: SocketAddr,
+    until_input_ends: bool,
+    journal: Option<OpenJournal>,
 }
 
 /// Hosts the program that the job names.
@@ -161,18 +168,15 @@ fn prepare<P: Host, T: Timeline>(
             tokens,
         },
         labels,
+        peers: plan.peers,
+        clients: plan.clients,
+        tokens: again,
         bytes,
         names_json,
-        address: plan.address,
         origins: plan.origins,
-        options: Options {
-            version: VERSION,
-            clients: plan.clients,
-            tokens: again,
-            peers: plan.peers,
-            until_input_ends: plan.until_input_ends,
-            journal,
-        },
+        address: plan.address,
+        until_input_ends: plan.until_input_ends,
+        journal,
     })
 }
 
@@ -256,27 +260,99 @@ fn host_on<
 ) -> Outcome
     ensures { EndsHosting result }
 {
+    let Ok(own) = own_name(alloc, address.ip()) else {
+        return Outcome::Memory;
+    };
+    match begin(rt) {
+        Ok((keys, now)) => {
+            let (start, outside) = parted(prepared, listener, own, address.port(), keys);
+            let shell = Shell { rt, alloc, outside };
+            outcome_of_hosting(driven(alloc, start, now, shell))
+        }
+        Err(fault) => outcome_of_hosting(Err(fault)),
+    }
+}
+
+/// The sockets of a host, which drive its machine.
+#[derive(Drop)]
+struct Shell<'a, P> {
+    rt: &'a P,
+    alloc: Global,
+    outside: Outside,
+}
+
+impl<'a, P: Host + Net<Listener = net::TcpListener, Stream = net::TcpStream>, T: Stepping> Drives<
+    T,
+    Result<(), HostFault>,
+> for Shell<'a, P> {
+    fn drive(self, machine: &mut Machine<T>) -> Result<(), HostFault> {
+        let Shell { rt, alloc, outside } = self;
+        host::<P, LastRow, Machine<T>>(rt, alloc, machine, outside)
+    }
+}
+
+/// Makes a machine that begins so, and has it driven.
+fn driven<T: Timeline, D: Drives<T, Result<(), HostFault>> + Drop>(
+    alloc: Global,
+    start: Start<T>,
+    now: u64,
+    driver: D,
+) -> Result<(), HostFault> {
+    match drive(alloc, start, now, driver) {
+        Ok(ended) => ended,
+        Err(_) => Err(HostFault::NoMemory),
+    }
+}
+
+/// What the machine begins with, and what the host has of the system.
+fn parted<T: Timeline>(
+    prepared: Prepared<T>,
+    listener: TcpListener,
+    own: ArrayString<64>,
+    port: u16,
+    keys: RandomState,
+) -> (Start<T>, Outside) {
     let Prepared {
         replica,
         facts,
         labels,
-        options,
+        peers,
+        clients,
+        tokens,
         bytes,
         names_json,
         origins,
+        until_input_ends,
+        journal,
         ..
     } = prepared;
-    let Ok(own) = own_name(alloc, address.ip()) else {
-        return Outcome::Memory;
+    let outside = Outside {
+        listener,
+        peers: u16::try_from(peers.len()).unwrap_or(u16::MAX),
+        until_input_ends,
+        journal,
     };
-    let served = Served {
+    let options = Options {
+        version: VERSION,
+        most_clients: clients_within(clients, peers.len()),
+        wanted: clients,
+    };
+    let texts = Texts {
+        names: Names::new(own, port, origins),
+        tokens,
         program: bytes,
         names_json,
-        names: Names::new(own, address.port(), origins),
     };
-    outcome_of_hosting(host::<P, T, LastRow>(
-        rt, alloc, replica, facts, labels, served, listener, options,
-    ))
+    let start = Start {
+        keys,
+        replica,
+        facts,
+        labels,
+        texts,
+        peers,
+        options,
+    };
+    (start, outside)
 }
 
 /// The address as a page names it: an IPv6 address stands in brackets.
