@@ -1,5 +1,5 @@
 //! Hosting a program.
-ghost use Rattle.std.specs.Prelude.{◌≡◌, IfErr, IfOk, MatchBool, OnErr, string_bytes};
+ghost use Rattle.std.specs.Prelude.{◌≡◌, ℕ, IfErr, IfOk, List, MatchBool, OnErr, string_bytes};
 ghost use Rattle.warpd.specs.Outcome.{EndsHosting, Hosts, HostsAt, HostsPlanned, IsPrinted, KeepsFromHosting, host_line};
 
 use crate::client_tokens::tokens_in;
@@ -227,47 +227,74 @@ fn host_at<
 >(rt: &P, alloc: Global, prepared: Prepared<T>, streams: &mut Streams<R, W>) -> Outcome
     ensures { HostsAt streams.old streams.new result }
 {
-    let listener = match TcpListener::bind(rt, prepared.address) {
-        Ok(listener) => listener,
-        Err(error) => {
-            tell_listen(rt, &prepared.address, &error);
-            return Outcome::Listen;
-        }
-    };
-    let Ok(address) = listener.local_addr() else {
-        return Outcome::Listen;
-    };
-    let Ok(text) = address.to_string(alloc) else {
-        return Outcome::Memory;
-    };
-    match say_host(alloc, text.as_str(), streams) {
-        Ok(true) => host_on::<P, T>(rt, alloc, prepared, listener, address),
-        Ok(false) => Outcome::Output,
-        Err(_) => Outcome::Memory,
+    match listened(rt, alloc, prepared.address, streams) {
+        Ok(place) => host_on::<P, T>(rt, alloc, prepared, place),
+        Err(outcome) => outcome,
     }
 }
 
-/// Hosts at this listener.
+/// Where a host listens.
+#[derive(Drop)]
+struct Place {
+    listener: TcpListener,
+    address: SocketAddr,
+}
+
+/// Listens at this address, and says so.
+fn listened<
+    P: Host + Net<Listener = net::TcpListener, Stream = net::TcpStream>,
+    R: Source,
+    W: Sink,
+>(rt: &P, alloc: Global, address: SocketAddr, streams: &mut Streams<R, W>) -> Result<Place, Outcome>
+    ensures ok { IfOk result (λ _. (text : List ℕ) × IsPrinted (host_line text) streams.old streams.new Outcome.Done) }
+    ensures err { IfErr result (λ outcome. HostsAt streams.old streams.new outcome) }
+{
+    let listener = match TcpListener::bind(rt, address) {
+        Ok(listener) => listener,
+        Err(error) => {
+            tell_listen(rt, &address, &error);
+            return Err(Outcome::Listen);
+        }
+    };
+    let Ok(address) = listener.local_addr() else {
+        return Err(Outcome::Listen);
+    };
+    let Ok(text) = address.to_string(alloc) else {
+        return Err(Outcome::Memory);
+    };
+    match say_host(alloc, text.as_str(), streams) {
+        Ok(true) => Ok(Place { listener, address }),
+        Ok(false) => Err(Outcome::Output),
+        Err(_) => Err(Outcome::Memory),
+    }
+}
+
+/// What a host begins with beside what is prepared: the name of its address, its keys and the time.
+#[derive(Drop)]
+struct Beginning {
+    own: ArrayString<64>,
+    keys: RandomState,
+    now: u64,
+}
+
+/// A host at this address begins now.
+fn beginning<P: Host>(rt: &P, alloc: Global, address: IpAddr) -> Result<Beginning, HostFault> {
+    let (keys, now) = begin(rt)?;
+    let own = own_name(alloc, address)?;
+    Ok(Beginning { own, keys, now })
+}
+
+/// Hosts here.
 fn host_on<
     P: Host + Net<Listener = net::TcpListener, Stream = net::TcpStream>,
     T: Stepping + Send + Drop,
->(
-    rt: &P,
-    alloc: Global,
-    prepared: Prepared<T>,
-    listener: TcpListener,
-    address: SocketAddr,
-) -> Outcome
+>(rt: &P, alloc: Global, prepared: Prepared<T>, place: Place) -> Outcome
     ensures { EndsHosting result }
 {
-    let Ok(own) = own_name(alloc, address.ip()) else {
-        return Outcome::Memory;
-    };
-    match begin(rt) {
-        Ok((keys, now)) => {
-            let (start, outside) = parted(prepared, listener, own, address.port(), keys);
-            let shell = Shell { rt, alloc, outside };
-            outcome_of_hosting(driven(alloc, start, now, shell))
+    match beginning(rt, alloc, place.address.ip()) {
+        Ok(Beginning { own, keys, now }) => {
+            let (start, outside) = parted(prepared, place, own, keys);
+            outcome_of_hosting(driven(alloc, start, now, Shell { rt, alloc, outside }))
         }
         Err(fault) => outcome_of_hosting(Err(fault)),
     }
@@ -307,11 +334,11 @@ fn driven<T: Timeline, D: Drives<T, Result<(), HostFault>> + Drop>(
 /// What the machine begins with, and what the host has of the system.
 fn parted<T: Timeline>(
     prepared: Prepared<T>,
-    listener: TcpListener,
+    place: Place,
     own: ArrayString<64>,
-    port: u16,
     keys: RandomState,
 ) -> (Start<T>, Outside) {
+    let Place { listener, address } = place;
     let Prepared {
         replica,
         facts,
@@ -338,7 +365,7 @@ fn parted<T: Timeline>(
         wanted: clients,
     };
     let texts = Texts {
-        names: Names::new(own, port, origins),
+        names: Names::new(own, address.port(), origins),
         tokens,
         program: bytes,
         names_json,
