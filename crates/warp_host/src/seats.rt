@@ -147,6 +147,17 @@ impl Seats {
         let _ = self.queue.push_back(who.key);
     }
 
+    /// The client is served soon, if the system takes more of what is to be written to it. One that takes no more is not
+    /// served for what it said, which is not wanted yet.
+    pub(crate) fn enqueue_writing(&mut self, who: ClientId) {
+        let Some(seat) = self.of(who) else {
+            return;
+        };
+        if seat.is_writing && seat.socket.may_write() {
+            self.enqueue(who);
+        }
+    }
+
     /// How many are to be served.
     pub(crate) fn queued(&self) -> usize {
         self.queue.len()

@@ -278,7 +278,7 @@ impl Worker {
             }
             machine.sent(who, count, self.now);
         }
-        self.seats.enqueue(who);
+        self.seats.enqueue_writing(who);
     }
 
     /// Goes on with the connections to peers.

@@ -4,7 +4,7 @@ ghost use Rattle.warp_clients.specs.Crowd.{IsAway, IsOutputOf};
 ghost use Rattle.warp_replica.specs.Answered.{facts_of};
 ghost use Rattle.warp_clients.specs.Client.{ClientState, IsMe};
 ghost use Rattle.warp_clients.specs.Steps as steps;
-ghost use Rattle.warp_machine.specs.Moving.{Moved, Stepped};
+ghost use Rattle.warp_machine.specs.Moving.{Moved, Stepped, clients_in, with_limit};
 
 use crate::action::{Action, Ending};
 use crate::conn::Want;
@@ -23,8 +23,10 @@ pub(crate) const MOST_UNREAD: usize = 65_536;
 impl<T: Timeline> Machine<T> {
     /// A connection has come: who it is. `None` where it is turned away, and to be closed.
     pub fn came(&mut self, now: u64) -> Option<ClientId>
-        ensures moved { Moved (facts_of T.settled T.refused T.floor T.SLACK) self.old.clients self.new.clients }
-        ensures joins { IfSome result (λ who. Stepped (facts_of T.settled T.refused T.floor T.SLACK) (steps.Joins who) self.old.clients self.new.clients) }
+        ensures moved { Moved (facts_of T.settled T.refused T.floor T.SLACK)
+            (clients_in self.old) (clients_in self.new) }
+        ensures joins { IfSome result (λ who. Stepped (facts_of T.settled T.refused T.floor T.SLACK) (steps.Joins who)
+            (clients_in self.old) (clients_in self.new)) }
     {
         self.now = now;
         if !self.lets_in() {
@@ -66,7 +68,8 @@ impl<T: Timeline> Machine<T> {
 
     /// Bytes of a client came, at most 16,384 at once and only where `wants` says so: how many are taken, which are all.
     pub fn bytes(&mut self, who: ClientId, bytes: &[u8], now: u64) -> usize
-        ensures moved { Moved (facts_of T.settled T.refused T.floor T.SLACK) self.old.clients self.new.clients }
+        ensures moved { Moved (facts_of T.settled T.refused T.floor T.SLACK)
+            (clients_in self.old) (clients_in self.new) }
         ensures all { result ≡ length bytes.now }
     {
         self.now = now;
@@ -115,7 +118,8 @@ impl<T: Timeline> Machine<T> {
 
     /// The other end of a client's connection has said all.
     pub fn ended(&mut self, who: ClientId, now: u64)
-        ensures { Moved (facts_of T.settled T.refused T.floor T.SLACK) self.old.clients self.new.clients }
+        ensures { Moved (facts_of T.settled T.refused T.floor T.SLACK)
+            (clients_in self.old) (clients_in self.new) }
     {
         self.now = now;
         if self.conns.note_end(who) {
@@ -125,7 +129,8 @@ impl<T: Timeline> Machine<T> {
 
     /// A client's connection has failed, and is closed: nothing is known of it any more.
     pub fn gone(&mut self, who: ClientId, now: u64)
-        ensures { Moved (facts_of T.settled T.refused T.floor T.SLACK) self.old.clients self.new.clients }
+        ensures { Moved (facts_of T.settled T.refused T.floor T.SLACK)
+            (clients_in self.old) (clients_in self.new) }
     {
         self.now = now;
         self.forget(who);
@@ -143,16 +148,17 @@ impl<T: Timeline> Machine<T> {
 
     /// The next bytes to be written to a client; none where it is not there.
     pub fn output(&self, who: ClientId) -> &[u8]
-        ensures there { (c : ClientState) → slice_get self.now.clients.crowd.clients who.key ≡ Some c → IsMe who c
+        ensures there { (c : ClientState) → slice_get (clients_in self.entry.now).crowd.clients who.key ≡ Some c → IsMe who c
             → IsOutputOf result.now c }
-        ensures away { IsAway who self.now.clients.crowd.clients → result.now ≡ [] }
+        ensures away { IsAway who (clients_in self.entry.now).crowd.clients → result.now ≡ [] }
     {
         self.clients.output(who)
     }
 
     /// The first so many of these were written.
     pub fn sent(&mut self, who: ClientId, count: usize, now: u64)
-        ensures { Moved (facts_of T.settled T.refused T.floor T.SLACK) self.old.clients self.new.clients }
+        ensures { Moved (facts_of T.settled T.refused T.floor T.SLACK)
+            (clients_in self.old) (clients_in self.new) }
     {
         self.now = now;
         self.time_answers();
@@ -190,12 +196,9 @@ impl<T: Timeline> Machine<T> {
     /// Of so long a log may be told from now on, all of it where there is no journal; and whether the journal can't be
     /// written: then records of clients are refused 14, and peers wait.
     pub fn told_up_to(&mut self, limit: u32, is_failing: bool, now: u64)
-        ensures moved { Moved (facts_of T.settled T.refused T.floor T.SLACK) self.old.clients self.new.clients }
-        ensures told { self.new.clients ≡ record self.old.clients {
-          crowd = record self.old.clients.crowd {
-            common = record self.old.clients.crowd.common { limit = limit; failing = is_failing };
-          };
-        } }
+        ensures moved { Moved (facts_of T.settled T.refused T.floor T.SLACK)
+            (clients_in self.old) (clients_in self.new) }
+        ensures told { clients_in self.new ≡ with_limit limit is_failing (clients_in self.old) }
     {
         self.now = now;
         self.note_journal(limit, is_failing);
@@ -217,14 +220,14 @@ impl<T: Timeline> Machine<T> {
 
     /// The journal can't be written until the end: the host has ended.
     pub fn journal_failed(&mut self)
-        ensures { self.new.clients ≡ self.old.clients }
+        ensures { clients_in self.new ≡ clients_in self.old }
     {
         self.end_for(Ending::Journal);
     }
 
     /// How many records the log has.
     pub fn len(&self) -> u32
-        ensures { result ≡ length self.now.clients.room.replica.records }
+        ensures { result ≡ length (clients_in self.entry.now).room.replica.records }
     {
         self.clients.room().len()
     }
@@ -238,7 +241,7 @@ impl<T: Timeline> Machine<T> {
         list: &mut Vec<Record>,
     ) -> Result<(), OutOfMemory>
         ensures ok { OnOk result (list.new.items
-            ≡ list.old.items ++ take most (drop count self.now.clients.room.replica.records)) }
+            ≡ list.old.items ++ take most (drop count (clients_in self.entry.now).room.replica.records)) }
         ensures err { OnErr result (list.new.items ≡ list.old.items) }
     {
         self.clients.room().records_behind(count, most, list)
@@ -246,7 +249,7 @@ impl<T: Timeline> Machine<T> {
 
     /// This is so of the journal and of the listener.
     pub fn seen(&mut self, seen: JournalSeen)
-        ensures { self.new.clients ≡ self.old.clients }
+        ensures { clients_in self.new ≡ clients_in self.old }
     {
         self.journal = seen;
     }
@@ -254,7 +257,8 @@ impl<T: Timeline> Machine<T> {
     /// Standard input has ended: no more connections are let in, what clients said is answered, and the host ends once they
     /// are gone, within ten seconds.
     pub fn input_ended(&mut self, now: u64)
-        ensures { Moved (facts_of T.settled T.refused T.floor T.SLACK) self.old.clients self.new.clients }
+        ensures { Moved (facts_of T.settled T.refused T.floor T.SLACK)
+            (clients_in self.old) (clients_in self.new) }
     {
         self.now = now;
         if self.ending.is_some() {
@@ -306,7 +310,8 @@ impl<T: Timeline> Machine<T> {
 
     /// What is to be done next; none where nothing is. What it wants is asked for behind each other call.
     pub fn next(&mut self) -> Option<Action>
-        ensures { Moved (facts_of T.settled T.refused T.floor T.SLACK) self.old.clients self.new.clients }
+        ensures { Moved (facts_of T.settled T.refused T.floor T.SLACK)
+            (clients_in self.old) (clients_in self.new) }
     {
         if let Some(note) = self.notes.pop_front() {
             return Some(Action::Tell(note));

@@ -3,7 +3,7 @@
 
 ghost use Rattle.std.specs.Prelude.{◌≡◌};
 ghost use Rattle.warp_replica.specs.Answered.{facts_of};
-ghost use Rattle.warp_machine.specs.Moving.{Moved};
+ghost use Rattle.warp_machine.specs.Moving.{Moved, clients_in};
 
 use crate::action::Ending;
 use crate::conn::{SECOND, Want, is_past};
@@ -21,7 +21,8 @@ const LONGEST_END: u64 = 10 * SECOND;
 impl<T: Timeline> Machine<T> {
     /// Looks at what is late: peers, and once a second clients and what an operator is told.
     pub fn tick(&mut self, now: u64)
-        ensures { Moved (facts_of T.settled T.refused T.floor T.SLACK) self.old.clients self.new.clients }
+        ensures { Moved (facts_of T.settled T.refused T.floor T.SLACK)
+            (clients_in self.old) (clients_in self.new) }
     {
         self.now = now;
         if self.is_over {

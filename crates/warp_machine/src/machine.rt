@@ -2,7 +2,7 @@
 
 ghost use Rattle.std.specs.Prelude.{◌≡◌, IfOk};
 ghost use Rattle.warp_replica.specs.Answered.{facts_of};
-ghost use Rattle.warp_machine.specs.Moving.{Began, Moved};
+ghost use Rattle.warp_machine.specs.Moving.{Began, Moved, clients_in};
 
 use crate::action::Ending;
 use crate::conns::Conns;
@@ -122,7 +122,7 @@ pub struct Machine<T: Timeline> {
 impl<T: Timeline> Machine<T> {
     /// A host that begins now: nothing of its log may be told yet (`told_up_to`).
     pub fn new(alloc: Global, start: Start<T>, now: u64) -> Result<Machine<T>, OutOfMemory>
-        ensures { IfOk result (λ machine. Began (facts_of T.settled T.refused T.floor T.SLACK) machine.clients) }
+        ensures { IfOk result (λ machine. Began (facts_of T.settled T.refused T.floor T.SLACK) (clients_in machine)) }
     {
         let Start {
             keys,
@@ -161,7 +161,7 @@ impl<T: Timeline> Machine<T> {
         options: Options,
         now: u64,
     ) -> Machine<T>
-        ensures { result.clients ≡ clients.entry }
+        ensures { result.clients ≡ clients }
     {
         let most_records = clients.room().replica().program().form().most_records();
         let mut notes = VecDeque::new(alloc);

@@ -2,7 +2,7 @@
 
 ghost use Rattle.std.specs.Prelude.{◌≡◌};
 ghost use Rattle.warp_replica.specs.Answered.{facts_of};
-ghost use Rattle.warp_machine.specs.Moving.{Moved};
+ghost use Rattle.warp_machine.specs.Moving.{Moved, clients_in};
 
 use crate::action::Action;
 use crate::machine::Machine;
@@ -80,7 +80,7 @@ impl<T: Timeline> Machine<T> {
 
     /// A peer's address was sought (`PeerAction::Seek`), and found or not.
     pub fn found(&mut self, peer: u16, is_found: bool, now: u64)
-        ensures { self.new.clients ≡ self.old.clients }
+        ensures { clients_in self.new ≡ clients_in self.old }
     {
         self.note_peer_at(peer, now);
         if let Some(followed) = self.peers.get_mut(peer as usize) {
@@ -90,7 +90,7 @@ impl<T: Timeline> Machine<T> {
 
     /// The connection of this number to a peer is there.
     pub fn connected(&mut self, peer: u16, number: u64, now: u64)
-        ensures { self.new.clients ≡ self.old.clients }
+        ensures { clients_in self.new ≡ clients_in self.old }
     {
         self.note_peer_at(peer, now);
         if let Some(followed) = self.peers.get_mut(peer as usize) {
@@ -108,7 +108,7 @@ impl<T: Timeline> Machine<T> {
 
     /// Bytes of the connection of this number to a peer came, at most 16,384 at once and only where they are wanted.
     pub fn peer_bytes(&mut self, peer: u16, number: u64, bytes: &[u8], now: u64)
-        ensures { self.new.clients ≡ self.old.clients }
+        ensures { clients_in self.new ≡ clients_in self.old }
     {
         self.note_peer_at(peer, now);
         if let Some(followed) = self.peers.get_mut(peer as usize) {
@@ -118,7 +118,7 @@ impl<T: Timeline> Machine<T> {
 
     /// The connection of this number to a peer has ended, or could not be made.
     pub fn peer_ended(&mut self, peer: u16, number: u64, now: u64)
-        ensures { self.new.clients ≡ self.old.clients }
+        ensures { clients_in self.new ≡ clients_in self.old }
     {
         self.note_peer_at(peer, now);
         if let Some(followed) = self.peers.get_mut(peer as usize) {
@@ -136,7 +136,7 @@ impl<T: Timeline> Machine<T> {
 
     /// So many of these were sent.
     pub fn peer_sent(&mut self, peer: u16, number: u64, count: usize, now: u64)
-        ensures { self.new.clients ≡ self.old.clients }
+        ensures { clients_in self.new ≡ clients_in self.old }
     {
         self.note_peer_at(peer, now);
         if let Some(followed) = self.peers.get_mut(peer as usize) {

@@ -1,7 +1,7 @@
 //! A turn: lines are heard, the room works, and what may be told is.
 ghost use Rattle.std.specs.Prelude.{◌≡◌};
 ghost use Rattle.warp_replica.specs.Answered.{facts_of};
-ghost use Rattle.warp_machine.specs.Moving.{Moved};
+ghost use Rattle.warp_machine.specs.Moving.{Moved, clients_in};
 
 use crate::conn::Want;
 use crate::conns::Conns;
@@ -30,7 +30,8 @@ impl<T: Timeline> Machine<T> {
     /// Hears lines of clients, has the room work for a while, and hands on what may be told. Whether there is more to do
     /// at once.
     pub fn turn<P: LastDone<T>>(&mut self, now: u64) -> bool
-        ensures { Moved (facts_of T.settled T.refused T.floor T.SLACK) self.old.clients self.new.clients }
+        ensures { Moved (facts_of T.settled T.refused T.floor T.SLACK)
+            (clients_in self.old) (clients_in self.new) }
     {
         if self.is_over {
             return false;

@@ -74,6 +74,10 @@ abbrev pub with_asked : Bool → Option Cursor → Option Cursor
 with_asked asked None = None
 with_asked asked (Some c) = Some (record c { is_asked = asked })
 
+-- but for what is asked
+abbrev pub unasked : Marks → Marks
+unasked m = record m { log = with_asked false m.log; released = with_asked false m.released }
+
 -- what this watches
 abbrev pub subject_of : Watch → Subject
 subject_of (watch.Log place) = subject.Log

@@ -1,5 +1,5 @@
 -- Clients by their keys: what each watches.
-use Rattle.std.specs.Prelude.{◌≡◌, ◌⊎◌, ◌<◌, ◌+◌, ℕ, List, ◌++◌, Option, None, Some, length, replicate, slice_get, slice_set}
+use Rattle.std.specs.Prelude.{◌≡◌, ◌⊎◌, ◌<◌, ◌+◌, ℕ, List, ◌++◌, Option, None, Some, length, replicate, slice_get, slice_set, map, Bool, true, false}
 use Rattle.warp_hub.specs.declared.words.Subject.{Subject}
 use Rattle.warp_hub.specs.declared.words.Word.{Word}
 use Rattle.warp_hub.specs.declared.words.Word.TheVariants as word
@@ -7,7 +7,14 @@ use Rattle.warp_watch.specs.declared.client_id.ClientId.{ClientId}
 use Rattle.warp_push.specs.declared.marks.Given.{Given}
 use Rattle.warp_push.specs.declared.marks.Marks.{Marks}
 use Rattle.warp_push.specs.declared.marks.News.{News}
-use Rattle.warp_push.specs.Marks.{AreMarksBehind, IsGivenOf, marks_with, marks_without}
+use Rattle.warp_push.specs.Marks.{AreMarksBehind, IsGivenOf, cursor_in, marks_with, marks_without, unasked}
+use Rattle.warp_push.specs.declared.marks.Cursor.{Cursor}
+use Rattle.warp_push.specs.declared.watchers.Answered.{Answered}
+use Rattle.warp_push.specs.declared.watchers.Pushing.{Pushing}
+use Rattle.warp_push.specs.declared.marks.News.TheVariants as news
+use Rattle.warp_hub.specs.declared.words.Subject.TheVariants as subject
+use Rattle.warp_watch.specs.declared.question.Question.{Question}
+use Rattle.warp_watch.specs.declared.question.Question.TheVariants as question
 
 -- a place's use, and what its client watches
 pub record Seat : Type 0 where
@@ -79,3 +86,54 @@ Notes who word.Releases old new = new ≡ old
 Notes who (word.Release number) old new = new ≡ old
 Notes who (word.Counts origin) old new = new ≡ old
 Notes who (word.Reached origin) old new = new ≡ old
+
+-- a seat but for what is asked for it
+abbrev pub settled : Seat → Seat
+settled s = record s { marks = unasked s.marks }
+
+-- nothing changes but which pages of their own are on their way
+abbrev pub OnlyAsks : List Seat → List Seat → Type 0
+OnlyAsks old new = map settled new ≡ map settled old
+
+-- it goes on here, and does go on
+abbrev pub GoesOnAt : ℕ → Option Cursor → Type 0
+GoesOnAt from cursor = (c : Cursor) × (cursor ≡ Some c) × (c.next ≡ from) × (c.is_done ≡ false)
+
+-- the question is for a page of this client's own: it begins where the client goes on
+abbrev pub IsOwnPage : ClientId → Question → List Seat → Type 0
+IsOwnPage who (question.Log from until) seats = IsThere who (λ s. GoesOnAt from s.marks.log) seats
+IsOwnPage who (question.Released from until) seats = IsThere who (λ s. GoesOnAt from s.marks.released) seats
+IsOwnPage who question.Vars seats = ⊥
+IsOwnPage who question.Releases seats = ⊥
+IsOwnPage who (question.Release number) seats = ⊥
+IsOwnPage who question.Horizon seats = ⊥
+IsOwnPage who question.Breaches seats = ⊥
+IsOwnPage who (question.Counts origin) seats = ⊥
+IsOwnPage who (question.Reached origin) seats = ⊥
+
+-- what was told is a watcher's own
+abbrev pub is_own : Option ClientId → Bool
+is_own None = false
+is_own (Some who) = true
+
+-- a page of what was told, with its places, to whom it was asked for
+abbrev pub IsPage : Subject → ℕ → Answered → Pushing → Type 0
+IsPage what from a p =
+    (p.subject ≡ what) × (p.news ≡ news.Page from a.told.next a.told.frozen (is_own a.asked.who)) × (p.who ≡ a.asked.who)
+    × (p.len ≡ a.told.len)
+
+-- a newest value, to all
+abbrev pub IsValue : Subject → Answered → Pushing → Type 0
+IsValue what a p = (p.subject ≡ what) × (p.who ≡ None) × (p.len ≡ a.told.len)
+
+-- this is pushed of what was told to that question
+abbrev pub IsPushedOf : Question → Answered → Pushing → Type 0
+IsPushedOf (question.Log from until) a p = IsPage subject.Log from a p
+IsPushedOf (question.Released from until) a p = IsPage subject.Released from a p
+IsPushedOf question.Vars a p = IsValue subject.Vars a p
+IsPushedOf question.Horizon a p = IsValue subject.Horizon a p
+IsPushedOf question.Breaches a p = IsValue subject.Breach a p
+IsPushedOf question.Releases a p = ⊥
+IsPushedOf (question.Release number) a p = ⊥
+IsPushedOf (question.Counts origin) a p = ⊥
+IsPushedOf (question.Reached origin) a p = ⊥

@@ -216,7 +216,8 @@ fn is_asked(cursor: Option<Cursor>) -> bool
 
 /// A page of a watcher's own is on its way, or does not come.
 fn ask(cursor: &mut Option<Cursor>, is_asked: bool)
-    ensures { cursor.new ≡ marks.with_asked is_asked cursor.old }
+    ensures asked { cursor.new ≡ marks.with_asked is_asked cursor.old }
+    ensures same { marks.with_asked false cursor.new ≡ marks.with_asked false cursor.old }
 {
     if let Some(watch) = cursor {
         watch.is_asked = is_asked;
@@ -311,7 +312,8 @@ impl Marks {
 
     /// A page of its own is on its way, or does not come.
     pub(crate) fn ask(&mut self, subject: Subject, is_asked: bool)
-        ensures { self.new ≡ marks.marks_asked subject is_asked self.old }
+        ensures asked { self.new ≡ marks.marks_asked subject is_asked self.old }
+        ensures same { marks.unasked self.new ≡ marks.unasked self.old }
     {
         match subject {
             Subject::Log => ask(&mut self.log, is_asked),

@@ -1,5 +1,8 @@
 //! What is pushed, as text: lines with their marks.
 
+ghost use Rattle.std.specs.Prelude.{◌≡◌, ◌++◌, ◌∷◌, [], IfOk, OnOk, if◌then◌else◌};
+ghost use Rattle.warp_push.specs.Texts.{marked};
+
 use arrayvec::ArrayVec;
 use itoa::Buffer;
 use std::alloc::{AllocError, Global};
@@ -30,17 +33,29 @@ pub fn skipped_line(left_out: u64) -> ArrayVec<u8, 32> {
 }
 
 /// The lines of this text, each with the mark in front.
-pub(crate) fn marked(alloc: Global, mark: &[u8], text: &[u8]) -> Result<Vec<u8>, AllocError> {
+pub(crate) fn marked(alloc: Global, mark: &[u8], text: &[u8]) -> Result<Vec<u8>, AllocError>
+    ensures { IfOk result (λ lines. lines.items ≡ marked mark.now text.now) }
+{
     let mut lines = Vec::new(alloc);
-    let mut is_start = true;
+    let mut starts = true;
     for byte in text {
-        if is_start {
-            lines.extend_from_slice(mark)?;
-        }
-        lines.push(*byte)?;
-        is_start = *byte == b'\n';
+        add_byte(&mut lines, mark, *byte, starts)?;
+        starts = *byte == b'\n';
     }
     Ok(lines)
+}
+
+/// A byte more, behind the mark where it begins a line.
+fn add_byte(lines: &mut Vec<u8>, mark: &[u8], byte: u8, starts: bool) -> Result<(), AllocError>
+    ensures { OnOk result (lines.new.items ≡ lines.old.items ++ ((if starts then mark.now else []) ++ byte ∷ [])) }
+{
+    if starts {
+        lines.extend_from_slice(mark)?;
+        lines.push(byte)?;
+        return Ok(());
+    }
+    lines.push(byte)?;
+    Ok(())
 }
 
 /// The lines of a page that was told, each with its mark, but for a last one that says that all is frozen.

@@ -2,8 +2,8 @@
 
 ghost use Rattle.std.specs.Prelude.{◌≡◌, ◌<◌, ◌≤◌, ◌↔◌, [], IfNone, IfSome, IsTrue, None, OnErr, OnOk, Some, length, slice_set};
 ghost use Rattle.warp_push.specs.Marks as marks;
-ghost use Rattle.warp_push.specs.Seats.{GetsSeat, Grows, IsAway, IsMe, IsThere, May, Takes, Watches, WatchesNothing};
-ghost use Rattle.warp_push.specs.Seats.{empty_seat, fresh_seat, no_marks};
+ghost use Rattle.warp_push.specs.Seats.{GetsSeat, Grows, IsAway, IsMe, IsThere, May, OnlyAsks, Takes, Watches, WatchesNothing};
+ghost use Rattle.warp_push.specs.Seats.{empty_seat, fresh_seat, no_marks, settled};
 
 use crate::marks::{Cursor, Given, Marks, NO_MARKS, News, Unpushed};
 use std::alloc::{AllocError, Global};
@@ -107,7 +107,7 @@ impl Place {
         ensures { self.new ≡ record { round = round; marks = no_marks } }
     {
         self.round = round;
-        self.marks = NO_MARKS;
+        self.clear();
     }
 
     /// Its client watches nothing.
@@ -134,7 +134,8 @@ impl Place {
 
     /// A page of its client's own is on its way, or does not come.
     fn ask(&mut self, subject: Subject, is_asked: bool)
-        ensures { Watches (marks.marks_asked subject is_asked) self.old self.new }
+        ensures asked { Watches (marks.marks_asked subject is_asked) self.old self.new }
+        ensures same { settled self.new ≡ settled self.old }
     {
         self.marks.ask(subject, is_asked);
     }
@@ -275,7 +276,8 @@ impl Places {
 
     /// A page of a client's own is on its way, or does not come.
     pub(crate) fn ask(&mut self, who: ClientId, subject: Subject, is_asked: bool)
-        ensures { May who (Watches (marks.marks_asked subject is_asked)) self.old self.new }
+        ensures asked { May who (Watches (marks.marks_asked subject is_asked)) self.old self.new }
+        ensures only { OnlyAsks self.old self.new }
     {
         let at = who.key as usize;
         if at >= self.all.len() || !self.all[at].is_me(who) {

@@ -1,7 +1,8 @@
 //! Who watches what, what is asked for them, what was told, and what is pushed of it.
 
 ghost use Rattle.std.specs.Prelude.{◌≡◌, ◌≤◌, [], IfSome, None, OnErr, OnOk, false};
-ghost use Rattle.warp_push.specs.Seats.{GetsSeat, Grows, IsAway, IsThere, May, Notes, Takes, Watches, WatchesNothing};
+ghost use Rattle.warp_push.specs.Seats.{GetsSeat, GoesOnAt, Grows, IsAway, IsOwnPage, IsPage, IsPushedOf, IsThere, IsValue};
+ghost use Rattle.warp_push.specs.Seats.{May, Notes, OnlyAsks, Takes, Watches, WatchesNothing, is_own};
 ghost use Rattle.warp_push.specs.Marks as marks;
 
 use crate::lists::Lists;
@@ -237,7 +238,10 @@ impl Watchers {
 
     /// The page that a client wants of its own, which is on its way then: it is behind the others, and none is. Where it
     /// wants another behind it, it stands among those that may want pages again.
-    pub fn own_page(&mut self, who: ClientId) -> Option<Question> {
+    pub fn own_page(&mut self, who: ClientId) -> Option<Question>
+        ensures only { OnlyAsks self.old self.new }
+        ensures own { IfSome result (λ question. IsOwnPage who question self.old) }
+    {
         let question = self.next_page(who)?;
         if self.wants_page(who) {
             let _is_noted = self.want(who.key);
@@ -246,7 +250,10 @@ impl Watchers {
     }
 
     /// The page that a client wants of its own, which is on its way then.
-    fn next_page(&mut self, who: ClientId) -> Option<Question> {
+    fn next_page(&mut self, who: ClientId) -> Option<Question>
+        ensures only { OnlyAsks self.old self.new }
+        ensures own { IfSome result (λ question. IsOwnPage who question self.old) }
+    {
         if let Some((from, until)) = self.page_of(who, Subject::Log) {
             self.places.ask(who, Subject::Log, true);
             return Some(Question::Log { from, until });
@@ -262,7 +269,9 @@ impl Watchers {
     }
 
     /// From where to where the page goes that a client wants of its own.
-    fn page_of(&self, who: ClientId, subject: Subject) -> Option<(u32, u32)> {
+    fn page_of(&self, who: ClientId, subject: Subject) -> Option<(u32, u32)>
+        ensures { IfSome result (λ at. IsThere who (λ s. GoesOnAt at.0 (marks.cursor_in subject s.marks)) self.now) }
+    {
         let cursor = self.places.cursor(who, subject)?;
         let tail = self.tail(subject);
         if cursor.is_asked || cursor.is_done || !tail.is_behind(cursor.next) {
@@ -326,7 +335,9 @@ impl Watchers {
     }
 
     /// What was asked could not be told: it is asked again.
-    pub fn missed(&mut self, asked: &Asked) {
+    pub fn missed(&mut self, asked: &Asked)
+        ensures { OnlyAsks self.old self.new }
+    {
         match asked.question {
             Question::Log { .. } => self.miss_page(asked.who, Subject::Log),
             Question::Released { .. } => self.miss_page(asked.who, Subject::Released),
@@ -341,7 +352,9 @@ impl Watchers {
     }
 
     /// A page does not come, for one watcher or for all.
-    fn miss_page(&mut self, who: Option<ClientId>, subject: Subject) {
+    fn miss_page(&mut self, who: Option<ClientId>, subject: Subject)
+        ensures { OnlyAsks self.old self.new }
+    {
         match who {
             Some(who) => {
                 self.places.ask(who, subject, false);
@@ -367,7 +380,9 @@ impl Watchers {
     }
 
     /// This was told. Without memory it is asked again.
-    pub fn keep(&mut self, asked: Asked, told: Told) {
+    pub fn keep(&mut self, asked: Asked, told: Told)
+        ensures { OnlyAsks self.old self.new }
+    {
         if self.told.push_back(Answered { asked, told }).is_err() {
             self.missed(&asked);
         }
@@ -386,15 +401,18 @@ impl Watchers {
     }
 
     /// What is pushed of what was told, if anything is. Without memory it is asked again.
-    pub fn pushing(&mut self, answered: &Answered) -> Option<Pushing> {
+    pub fn pushing(&mut self, answered: &Answered) -> Option<Pushing>
+        ensures only { OnlyAsks self.old self.new }
+        ensures of { IfSome result (λ one. IsPushedOf answered.now.asked.question answered.now one) }
+    {
         match answered.asked.question {
             Question::Log { from, until } => self.page(Subject::Log, from, until, answered),
             Question::Released { from, until } => {
                 self.page(Subject::Released, from, until, answered)
             }
-            Question::Vars => self.value(Subject::Vars, &answered.told),
-            Question::Horizon => self.value(Subject::Horizon, &answered.told),
-            Question::Breaches => self.value(Subject::Breach, &answered.told),
+            Question::Vars => self.value(Subject::Vars, answered),
+            Question::Horizon => self.value(Subject::Horizon, answered),
+            Question::Breaches => self.value(Subject::Breach, answered),
             Question::Releases
             | Question::Release(_)
             | Question::Counts(_)
@@ -409,7 +427,10 @@ impl Watchers {
         from: u32,
         until: u32,
         answered: &Answered,
-    ) -> Option<Pushing> {
+    ) -> Option<Pushing>
+        ensures only { OnlyAsks self.old self.new }
+        ensures of { IfSome result (λ one. IsPage subject from answered.now one) }
+    {
         let told = &answered.told;
         let Ok(text) = page_text(self.alloc, &told.text, told.frozen) else {
             self.missed(&answered.asked);
@@ -420,7 +441,7 @@ impl Watchers {
             from,
             next: told.next,
             frozen: told.frozen,
-            is_own: who.is_some(),
+            is_own: is_own(who),
         };
         let each = self.learn(subject, from, until, answered);
         Some(Pushing {
@@ -459,14 +480,14 @@ impl Watchers {
     }
 
     /// The newest value of a thing that is pushed to all that were not pushed it.
-    fn value(&mut self, subject: Subject, told: &Told) -> Option<Pushing>
+    fn value(&mut self, subject: Subject, answered: &Answered) -> Option<Pushing>
         ensures same { self.new ≡ self.old }
-        ensures of { IfSome result (λ one. (one.len ≡ told.now.len) × (one.who ≡ None)) }
+        ensures of { IfSome result (λ one. IsValue subject answered.now one) }
     {
         match subject {
-            Subject::Vars => value_of(&mut self.vars, self.alloc, subject, told),
-            Subject::Horizon => value_of(&mut self.horizon, self.alloc, subject, told),
-            _ => value_of(&mut self.breach, self.alloc, subject, told),
+            Subject::Vars => value_of(&mut self.vars, self.alloc, subject, answered),
+            Subject::Horizon => value_of(&mut self.horizon, self.alloc, subject, answered),
+            _ => value_of(&mut self.breach, self.alloc, subject, answered),
         }
     }
 
@@ -523,8 +544,26 @@ impl Watchers {
 }
 
 /// The newest value of a thing, as it was told, for all that were not pushed it.
-fn value_of(latest: &mut Latest, alloc: Global, subject: Subject, told: &Told) -> Option<Pushing> {
+fn value_of(
+    latest: &mut Latest,
+    alloc: Global,
+    subject: Subject,
+    answered: &Answered,
+) -> Option<Pushing>
+    ensures { IfSome result (λ one. IsValue subject answered.now one) }
+{
+    let told = &answered.told;
     let text = latest.news(alloc, told.len, &told.text)?;
     let news = News::Value(latest.version());
     Some(Pushing::to_all(subject, news, told.len, text))
+}
+
+/// Whether what was told is a watcher's own.
+fn is_own(who: Option<ClientId>) -> bool
+    ensures { result ≡ is_own who }
+{
+    match who {
+        Some(_) => true,
+        None => false,
+    }
 }
