@@ -173,8 +173,11 @@ impl Seats {
 
     /// The client's connection is closed.
     pub(crate) fn close(&mut self, who: ClientId) {
-        if self.of(who).is_some() {
-            self.seats[who.key as usize] = None;
+        if self.of(who).is_none() {
+            return;
+        }
+        if let Some(seat) = self.seats.get_mut(who.key as usize) {
+            *seat = None;
         }
     }
 }

@@ -425,7 +425,10 @@ impl Worker {
 
     /// Does what the machine wants.
     pub(crate) fn act<X: Eprint + Net, P, M: Decides<P>>(&mut self, rt: &X, machine: &mut M) {
-        while let Some(action) = machine.next() {
+        for _ in 0..u64::MAX {
+            let Some(action) = machine.next() else {
+                return;
+            };
             self.act_one(rt, machine, action);
         }
     }

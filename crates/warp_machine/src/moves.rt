@@ -41,7 +41,7 @@ pub(crate) fn come_as<T: Timeline>(clients: &mut Clients<T>, rights: Rights) -> 
 pub(crate) fn leave<T: Timeline>(clients: &mut Clients<T>, who: ClientId)
     ensures { Moved (facts_of T.settled T.refused T.floor T.SLACK) clients.old clients.new }
 {
-    let _was_there = clients.leave(who);
+    clients.leave(who);
 }
 
 /// Hears the first of these bytes of a client for which there is room: how many. `None` where its connection is lost.

@@ -204,8 +204,15 @@ impl<T: Timeline> Machine<T> {
     {
         let fed = self.feed_from(at);
         let heard = self.answer_peer(at);
+        self.note_went_on(at, fed | heard);
+    }
+
+    /// Lines of a peer were given on, or answers taken, or not.
+    fn note_went_on(&mut self, at: usize, is_due: bool)
+        ensures { self.new.clients ≡ self.old.clients }
+    {
         if let Some(followed) = self.peers.get_mut(at) {
-            followed.went_on(fed || heard);
+            followed.went_on(is_due);
         }
     }
 

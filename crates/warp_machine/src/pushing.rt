@@ -243,7 +243,7 @@ impl<T: Timeline> Machine<T> {
         ensures { Moved (facts_of T.settled T.refused T.floor T.SLACK) self.old.clients self.new.clients }
     {
         self.counted.slow = self.counted.slow.saturating_add(1);
-        let _is_pushed = moves::push(&mut self.clients, who, 0, GONE_SLOW);
+        moves::push(&mut self.clients, who, 0, GONE_SLOW);
         moves::stop(&mut self.clients, who);
     }
 

@@ -9,10 +9,6 @@ use Rattle.warp_push.specs.declared.marks.Marks.{Marks}
 use Rattle.warp_push.specs.declared.marks.News.{News}
 use Rattle.warp_push.specs.Marks.{AreMarksBehind, IsGivenOf, cursor_in, marks_with, marks_without, unasked}
 use Rattle.warp_push.specs.declared.marks.Cursor.{Cursor}
-use Rattle.warp_push.specs.declared.watchers.Answered.{Answered}
-use Rattle.warp_push.specs.declared.watchers.Pushing.{Pushing}
-use Rattle.warp_push.specs.declared.marks.News.TheVariants as news
-use Rattle.warp_hub.specs.declared.words.Subject.TheVariants as subject
 use Rattle.warp_watch.specs.declared.question.Question.{Question}
 use Rattle.warp_watch.specs.declared.question.Question.TheVariants as question
 
@@ -110,30 +106,3 @@ IsOwnPage who question.Horizon seats = ⊥
 IsOwnPage who question.Breaches seats = ⊥
 IsOwnPage who (question.Counts origin) seats = ⊥
 IsOwnPage who (question.Reached origin) seats = ⊥
-
--- what was told is a watcher's own
-abbrev pub is_own : Option ClientId → Bool
-is_own None = false
-is_own (Some who) = true
-
--- a page of what was told, with its places, to whom it was asked for
-abbrev pub IsPage : Subject → ℕ → Answered → Pushing → Type 0
-IsPage what from a p =
-    (p.subject ≡ what) × (p.news ≡ news.Page from a.told.next a.told.frozen (is_own a.asked.who)) × (p.who ≡ a.asked.who)
-    × (p.len ≡ a.told.len)
-
--- a newest value, to all
-abbrev pub IsValue : Subject → Answered → Pushing → Type 0
-IsValue what a p = (p.subject ≡ what) × (p.who ≡ None) × (p.len ≡ a.told.len)
-
--- this is pushed of what was told to that question
-abbrev pub IsPushedOf : Question → Answered → Pushing → Type 0
-IsPushedOf (question.Log from until) a p = IsPage subject.Log from a p
-IsPushedOf (question.Released from until) a p = IsPage subject.Released from a p
-IsPushedOf question.Vars a p = IsValue subject.Vars a p
-IsPushedOf question.Horizon a p = IsValue subject.Horizon a p
-IsPushedOf question.Breaches a p = IsValue subject.Breach a p
-IsPushedOf question.Releases a p = ⊥
-IsPushedOf (question.Release number) a p = ⊥
-IsPushedOf (question.Counts origin) a p = ⊥
-IsPushedOf (question.Reached origin) a p = ⊥

@@ -1,5 +1,5 @@
 -- Texts that are pushed.
-use Rattle.std.specs.Prelude.{ℕ, zero, suc, ◌==◌, Bool, true, false, List, [], ◌∷◌, ◌++◌, if◌then◌else◌}
+use Rattle.std.specs.Prelude.{ℕ, zero, suc, ◌==◌, Bool, true, false, List, [], ◌∷◌, ◌++◌, ◌-◌, if◌then◌else◌, length, take}
 
 -- a text with the mark in front of each of its lines; whether its first byte begins a line
 abbrev pub marked_from : List ℕ → Bool → List ℕ → List ℕ
@@ -8,3 +8,11 @@ marked_from mark starts (b ∷ bs) = (if starts then mark else []) ++ (b ∷ mar
 
 abbrev pub marked : List ℕ → List ℕ → List ℕ
 marked mark text = marked_from mark true text
+
+-- the mark of a line that is pushed
+abbrev pub pushed_mark : List ℕ
+pushed_mark = 42 ∷ 32 ∷ []
+
+-- a page that was told, but for a last line that says that all is frozen
+abbrev pub page_lines : Bool → List ℕ → List ℕ
+page_lines frozen text = if frozen then take (length text - 7) text else text

@@ -1,7 +1,7 @@
 //! What is pushed, as text: lines with their marks.
 
 ghost use Rattle.std.specs.Prelude.{◌≡◌, ◌++◌, ◌∷◌, [], IfOk, OnOk, if◌then◌else◌};
-ghost use Rattle.warp_push.specs.Texts.{marked};
+ghost use Rattle.warp_push.specs.Texts.{marked, page_lines, pushed_mark};
 
 use arrayvec::ArrayVec;
 use itoa::Buffer;
@@ -59,12 +59,16 @@ fn add_byte(lines: &mut Vec<u8>, mark: &[u8], byte: u8, starts: bool) -> Result<
 }
 
 /// The lines of a page that was told, each with its mark, but for a last one that says that all is frozen.
-pub(crate) fn page_text(alloc: Global, text: &[u8], frozen: bool) -> Result<Vec<u8>, AllocError> {
+pub(crate) fn page_text(alloc: Global, text: &[u8], frozen: bool) -> Result<Vec<u8>, AllocError>
+    ensures { IfOk result (λ lines. lines.items ≡ marked pushed_mark (page_lines frozen text.now)) }
+{
     marked(alloc, MARK, lines_of(text, frozen))
 }
 
 /// A page that was told, but for a last line that says that all is frozen.
-fn lines_of(text: &[u8], frozen: bool) -> &[u8] {
+fn lines_of(text: &[u8], frozen: bool) -> &[u8]
+    ensures { result.now ≡ page_lines frozen text.now }
+{
     if !frozen {
         return text;
     }

@@ -1,8 +1,9 @@
 //! Who watches what, what is asked for them, what was told, and what is pushed of it.
 
 ghost use Rattle.std.specs.Prelude.{◌≡◌, ◌≤◌, [], IfSome, None, OnErr, OnOk, false};
-ghost use Rattle.warp_push.specs.Seats.{GetsSeat, GoesOnAt, Grows, IsAway, IsOwnPage, IsPage, IsPushedOf, IsThere, IsValue};
-ghost use Rattle.warp_push.specs.Seats.{May, Notes, OnlyAsks, Takes, Watches, WatchesNothing, is_own};
+ghost use Rattle.warp_push.specs.Pushings.{IsPage, IsPushedOf, IsValue, is_own};
+ghost use Rattle.warp_push.specs.Seats.{GetsSeat, GoesOnAt, Grows, IsAway, IsOwnPage, IsThere, May, Notes, OnlyAsks};
+ghost use Rattle.warp_push.specs.Seats.{Takes, Watches, WatchesNothing};
 ghost use Rattle.warp_push.specs.Marks as marks;
 
 use crate::lists::Lists;
