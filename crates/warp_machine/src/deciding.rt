@@ -8,21 +8,18 @@ use warp_line::Timeline;
 use warp_record::Record;
 use warp_tag::OutOfMemory;
 
-/// What has a machine work: a host's sockets, or a world that is made up.
-pub trait Drives<T: Timeline, E> {
-    /// Has it work until it has ended; what came of that.
-    fn drive(self, machine: &mut Machine<T>) -> E;
-}
-
-/// Makes the machine of a host that begins now, and has it driven. `Err`: there was no memory for it, and nothing was done.
-pub fn drive<T: Timeline, E: Drop, D: Drives<T, E> + Drop>(
+/// Makes the machine of a host that begins now, and has it driven: by a host's sockets, or in a world that is made up. What
+/// came of that; `Err` where there was no memory for the machine, and nothing was done.
+pub fn drive<T: Timeline, E: Drop, F: FnOnce(&mut Machine<T>) -> E + Drop>(
     alloc: Global,
     start: Start<T>,
     now: u64,
-    driver: D,
-) -> Result<E, OutOfMemory> {
+    driver: F,
+) -> Result<E, OutOfMemory>
+    requires { F.IsAlwaysCallable driver }
+{
     let mut machine = Machine::new(alloc, start, now)?;
-    Ok(driver.drive(&mut machine))
+    Ok(driver(&mut machine))
 }
 
 impl<T: Timeline, P: LastDone<T>> Decides<P> for Machine<T> {

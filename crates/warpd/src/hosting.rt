@@ -20,10 +20,11 @@ use warp_host::{HostFault, Outside, begin, clients_within, host};
 use warp_hub::{Facts, Tokens};
 use warp_journal::{first_line, old_first_line};
 use warp_line::Timeline;
-use warp_machine::{Drives, Machine, Options, PeerAt, Start, drive};
+use warp_machine::{Machine, Options, PeerAt, Start, drive};
 use warp_pages::{Names, Texts};
 use warp_replica::Replica;
 use warp_session::{Sink, Source, write_all};
+use warp_tag::OutOfMemory;
 use warp_trace::Labels;
 use warp_words::HostJob;
 
@@ -294,38 +295,17 @@ fn host_on<
     match make_beginning(rt, alloc, place.address.ip()) {
         Ok(Beginning { own, keys, now }) => {
             let (start, outside) = parted(prepared, place, own, keys);
-            outcome_of_hosting(driven(alloc, start, now, Shell { rt, alloc, outside }))
+            outcome_of_hosting(ended(drive(alloc, start, now, move |machine| {
+                host::<P, LastRow, Machine<T>>(rt, alloc, machine, outside)
+            })))
         }
         Err(fault) => outcome_of_hosting(Err(fault)),
     }
 }
 
-/// The sockets of a host, which drive its machine.
-#[derive(Drop)]
-struct Shell<'a, P> {
-    rt: &'a P,
-    alloc: Global,
-    outside: Outside,
-}
-
-impl<'a, P: Host + Net<Listener = net::TcpListener, Stream = net::TcpStream>, T: Stepping> Drives<
-    T,
-    Result<(), HostFault>,
-> for Shell<'a, P> {
-    fn drive(self, machine: &mut Machine<T>) -> Result<(), HostFault> {
-        let Shell { rt, alloc, outside } = self;
-        host::<P, LastRow, Machine<T>>(rt, alloc, machine, outside)
-    }
-}
-
-/// Makes a machine that begins so, and has it driven.
-fn driven<T: Timeline, D: Drives<T, Result<(), HostFault>> + Drop>(
-    alloc: Global,
-    start: Start<T>,
-    now: u64,
-    driver: D,
-) -> Result<(), HostFault> {
-    match drive(alloc, start, now, driver) {
+/// How hosting ended; `Err` where there was no memory for the machine.
+fn ended(driven: Result<Result<(), HostFault>, OutOfMemory>) -> Result<(), HostFault> {
+    match driven {
         Ok(ended) => ended,
         Err(_) => Err(HostFault::NoMemory),
     }
