@@ -17,7 +17,6 @@ mod start;
 mod stepping;
 mod turning;
 
-pub use deciding::drive;
 pub use machine::Machine;
 pub use start::{LastDone, Options, PeerAt, Start};
 pub use warp_events::{
