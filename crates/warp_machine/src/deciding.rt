@@ -1,26 +1,11 @@
-//! The machine as the shell knows it, and as it is begun: who has it driven never owns it.
+//! The machine as the shell of a host knows it.
 
 use crate::machine::Machine;
-use crate::start::{LastDone, Start};
-use std::alloc::Global;
+use crate::start::LastDone;
 use warp_events::{Action, ClientId, Decides, JournalSeen, Named, Note};
 use warp_line::Timeline;
 use warp_record::Record;
 use warp_tag::OutOfMemory;
-
-/// Makes the machine of a host that begins now, and has it driven: by a host's sockets, or in a world that is made up. What
-/// came of that; `Err` where there was no memory for the machine, and nothing was done.
-pub fn drive<T: Timeline, E: Drop, F: FnOnce(&mut Machine<T>) -> E + Drop>(
-    alloc: Global,
-    start: Start<T>,
-    now: u64,
-    driver: F,
-) -> Result<E, OutOfMemory>
-    requires { F.IsAlwaysCallable driver }
-{
-    let mut machine = Machine::new(alloc, start, now)?;
-    Ok(driver(&mut machine))
-}
 
 impl<T: Timeline, P: LastDone<T>> Decides<P> for Machine<T> {
     fn came(&mut self, now: u64) -> Option<ClientId> {

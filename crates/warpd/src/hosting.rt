@@ -16,15 +16,14 @@ use std::alloc::{AllocError, Global};
 use std::hash::RandomState;
 use std::net::{self, IpAddr, Net, SocketAddr};
 use warp_disk::{FirstLines, OpenJournal, open_journal};
-use warp_host::{HostFault, Outside, begin, clients_within, host};
+use warp_host::{HostFault, Outside, begin, clients_within};
 use warp_hub::{Facts, Tokens};
 use warp_journal::{first_line, old_first_line};
 use warp_line::Timeline;
-use warp_machine::{Machine, Options, PeerAt, Start, drive};
+use warp_machine::{Options, PeerAt, Start, host_machine};
 use warp_pages::{Names, Texts};
 use warp_replica::Replica;
 use warp_session::{Sink, Source, write_all};
-use warp_tag::OutOfMemory;
 use warp_trace::Labels;
 use warp_words::HostJob;
 
@@ -295,19 +294,9 @@ fn host_on<
     match make_beginning(rt, alloc, place.address.ip()) {
         Ok(Beginning { own, keys, now }) => {
             let (start, outside) = parted(prepared, place, own, keys);
-            outcome_of_hosting(ended(drive(alloc, start, now, move |machine| {
-                host::<P, LastRow, Machine<T>>(rt, alloc, machine, outside)
-            })))
+            outcome_of_hosting(host_machine::<P, T, LastRow>(rt, alloc, start, now, outside))
         }
         Err(fault) => outcome_of_hosting(Err(fault)),
-    }
-}
-
-/// How hosting ended; `Err` where there was no memory for the machine.
-fn ended(driven: Result<Result<(), HostFault>, OutOfMemory>) -> Result<(), HostFault> {
-    match driven {
-        Ok(ended) => ended,
-        Err(_) => Err(HostFault::NoMemory),
     }
 }
 
