@@ -1,4 +1,4 @@
-//! The machine as the shell knows it.
+//! The machine as the shell of a host knows it.
 
 use crate::machine::Machine;
 use crate::start::LastDone;

@@ -16,11 +16,11 @@ use std::alloc::{AllocError, Global};
 use std::hash::RandomState;
 use std::net::{self, IpAddr, Net, SocketAddr};
 use warp_disk::{FirstLines, OpenJournal, open_journal};
-use warp_host::{HostFault, Outside, begin, clients_within, host};
+use warp_host::{HostFault, Outside, begin, clients_within};
 use warp_hub::{Facts, Tokens};
 use warp_journal::{first_line, old_first_line};
 use warp_line::Timeline;
-use warp_machine::{Machine, Options, PeerAt, Start};
+use warp_machine::{Options, PeerAt, Start, host_machine};
 use warp_pages::{Names, Texts};
 use warp_replica::Replica;
 use warp_session::{Sink, Source, write_all};
@@ -294,21 +294,10 @@ fn host_on<
     match make_beginning(rt, alloc, place.address.ip()) {
         Ok(Beginning { own, keys, now }) => {
             let (start, outside) = parted(prepared, place, own, keys);
-            outcome_of_hosting(drive_host(rt, alloc, start, now, outside))
+            outcome_of_hosting(host_machine::<P, T, LastRow>(rt, alloc, start, now, outside))
         }
         Err(fault) => outcome_of_hosting(Err(fault)),
     }
-}
-
-/// Makes the machine of a host that begins so, and has the sockets of this process drive it.
-fn drive_host<
-    P: Host + Net<Listener = net::TcpListener, Stream = net::TcpStream>,
-    T: Stepping + Send + Drop,
->(rt: &P, alloc: Global, start: Start<T>, now: u64, outside: Outside) -> Result<(), HostFault> {
-    let Ok(mut machine) = Machine::new(alloc, start, now) else {
-        return Err(HostFault::NoMemory);
-    };
-    host::<P, LastRow, Machine<T>>(rt, alloc, &mut machine, outside)
 }
 
 /// What the machine begins with, and what the host has of the system.
