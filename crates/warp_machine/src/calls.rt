@@ -186,7 +186,7 @@ impl<T: Timeline> Machine<T> {
         if was_full {
             let _is_noted = self.watchers.want(who.key);
         }
-        if self.output(who).is_empty() {
+        if self.clients.output(who).is_empty() {
             self.conns.set_writing(who, false);
         }
         self.want_hear(who, wanted);
