@@ -1,29 +1,11 @@
-//! The machine as the shell knows it, and as it is begun: who has it driven never owns it.
+//! The machine as the shell of a host knows it.
 
 use crate::machine::Machine;
-use crate::start::{LastDone, Start};
-use std::alloc::Global;
+use crate::start::LastDone;
 use warp_events::{Action, ClientId, Decides, JournalSeen, Named, Note};
 use warp_line::Timeline;
 use warp_record::Record;
 use warp_tag::OutOfMemory;
-
-/// What has a machine work: a host's sockets, or a world that is made up.
-pub trait Drives<T: Timeline, E> {
-    /// Has it work until it has ended; what came of that.
-    fn drive(self, machine: &mut Machine<T>) -> E;
-}
-
-/// Makes the machine of a host that begins now, and has it driven. `Err`: there was no memory for it, and nothing was done.
-pub fn drive<T: Timeline, E: Drop, D: Drives<T, E> + Drop>(
-    alloc: Global,
-    start: Start<T>,
-    now: u64,
-    driver: D,
-) -> Result<E, OutOfMemory> {
-    let mut machine = Machine::new(alloc, start, now)?;
-    Ok(driver.drive(&mut machine))
-}
 
 impl<T: Timeline, P: LastDone<T>> Decides<P> for Machine<T> {
     fn came(&mut self, now: u64) -> Option<ClientId> {

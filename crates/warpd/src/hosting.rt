@@ -16,11 +16,11 @@ use std::alloc::{AllocError, Global};
 use std::hash::RandomState;
 use std::net::{self, IpAddr, Net, SocketAddr};
 use warp_disk::{FirstLines, OpenJournal, open_journal};
-use warp_host::{HostFault, Outside, begin, clients_within, host};
+use warp_host::{HostFault, Outside, begin, clients_within};
 use warp_hub::{Facts, Tokens};
 use warp_journal::{first_line, old_first_line};
 use warp_line::Timeline;
-use warp_machine::{Drives, Machine, Options, PeerAt, Start, drive};
+use warp_machine::{Options, PeerAt, Start, host_machine};
 use warp_pages::{Names, Texts};
 use warp_replica::Replica;
 use warp_session::{Sink, Source, write_all};
@@ -278,7 +278,7 @@ struct Beginning {
 }
 
 /// A host at this address begins now.
-fn beginning<P: Host>(rt: &P, alloc: Global, address: IpAddr) -> Result<Beginning, HostFault> {
+fn make_beginning<P: Host>(rt: &P, alloc: Global, address: IpAddr) -> Result<Beginning, HostFault> {
     let (keys, now) = begin(rt)?;
     let own = own_name(alloc, address)?;
     Ok(Beginning { own, keys, now })
@@ -291,43 +291,12 @@ fn host_on<
 >(rt: &P, alloc: Global, prepared: Prepared<T>, place: Place) -> Outcome
     ensures { EndsHosting result }
 {
-    match beginning(rt, alloc, place.address.ip()) {
+    match make_beginning(rt, alloc, place.address.ip()) {
         Ok(Beginning { own, keys, now }) => {
             let (start, outside) = parted(prepared, place, own, keys);
-            outcome_of_hosting(driven(alloc, start, now, Shell { rt, alloc, outside }))
+            outcome_of_hosting(host_machine::<P, T, LastRow>(rt, alloc, start, now, outside))
         }
         Err(fault) => outcome_of_hosting(Err(fault)),
-    }
-}
-
-/// The sockets of a host, which drive its machine.
-#[derive(Drop)]
-struct Shell<'a, P> {
-    rt: &'a P,
-    alloc: Global,
-    outside: Outside,
-}
-
-impl<'a, P: Host + Net<Listener = net::TcpListener, Stream = net::TcpStream>, T: Stepping> Drives<
-    T,
-    Result<(), HostFault>,
-> for Shell<'a, P> {
-    fn drive(self, machine: &mut Machine<T>) -> Result<(), HostFault> {
-        let Shell { rt, alloc, outside } = self;
-        host::<P, LastRow, Machine<T>>(rt, alloc, machine, outside)
-    }
-}
-
-/// Makes a machine that begins so, and has it driven.
-fn driven<T: Timeline, D: Drives<T, Result<(), HostFault>> + Drop>(
-    alloc: Global,
-    start: Start<T>,
-    now: u64,
-    driver: D,
-) -> Result<(), HostFault> {
-    match drive(alloc, start, now, driver) {
-        Ok(ended) => ended,
-        Err(_) => Err(HostFault::NoMemory),
     }
 }
 
