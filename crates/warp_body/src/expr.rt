@@ -2,8 +2,10 @@
 ghost use Rattle.std.specs.Prelude.{◌≡◌, length, IsTrue, IfOk, ◌↔◌};
 ghost use Rattle.warp_body.specs.Term.{Term, term_of, value_of, term_fits, sizes_of};
 
+use crate::cell::read_cell;
 use crate::operator::{BinaryOperator, UnaryOperator, as_number, is_true};
 use crate::place::{Present, Sizes, Target, Vars};
+use crate::wide::multiply_divide;
 use std::alloc::Global;
 use warp_tag::OutOfMemory;
 
@@ -24,6 +26,12 @@ pub enum Expr {
     Binary(BinaryOperator, Box<Expr>, Box<Expr>),
     /// The second where the first isn't 0, else the third.
     If(Box<Expr>, Box<Expr>, Box<Expr>),
+    /// The Euclidean quotient of the product of the first two, whole in 128 bits, by the third: its low 64 bits, 0 for
+    /// the divisor 0.
+    MultiplyDivide(Box<Expr>, Box<Expr>, Box<Expr>),
+    /// The value of a cell of an array, which is a range of variables: the number of its first variable, how many there
+    /// are, and the number of the cell, from 0. It is 0 where there is no cell with this number.
+    At(u32, u32, Box<Expr>),
 }
 
 /// The value of an expression, whose places and variables are among these.
@@ -56,6 +64,15 @@ fn evaluate(expr: &Expr, vars: &[i64], present: &Present) -> i64
                 evaluate(b, vars, present)
             }
         }
+        Expr::MultiplyDivide(a, b, c) => {
+            let first = evaluate(a, vars, present);
+            let second = evaluate(b, vars, present);
+            multiply_divide(first, second, evaluate(c, vars, present))
+        }
+        Expr::At(first, count, index) => {
+            let number = evaluate(index, vars, present);
+            read_cell(vars, *first, *count, number)
+        }
     }
 }
 
@@ -71,6 +88,10 @@ impl Expr {
             Expr::Unary(_, a) => a.fits(sizes),
             Expr::Binary(_, a, b) => a.fits(sizes) && b.fits(sizes),
             Expr::If(condition, a, b) => { condition.fits(sizes) && a.fits(sizes) && b.fits(sizes) }
+            Expr::MultiplyDivide(a, b, c) => a.fits(sizes) && b.fits(sizes) && c.fits(sizes),
+            Expr::At(first, count, index) => {
+                *first as usize + *count as usize <= sizes.vars && index.fits(sizes)
+            }
         }
     }
 
@@ -98,6 +119,16 @@ impl Expr {
                 let b = boxed(alloc, b.copy(alloc))?;
                 Ok(Expr::If(condition, a, b))
             }
+            Expr::MultiplyDivide(a, b, c) => {
+                let a = boxed(alloc, a.copy(alloc))?;
+                let b = boxed(alloc, b.copy(alloc))?;
+                let c = boxed(alloc, c.copy(alloc))?;
+                Ok(Expr::MultiplyDivide(a, b, c))
+            }
+            Expr::At(first, count, index) => {
+                let index = boxed(alloc, index.copy(alloc))?;
+                Ok(Expr::At(*first, *count, index))
+            }
         }
     }
 
@@ -113,6 +144,10 @@ impl Expr {
             (Expr::Unary(o, a), Expr::Unary(p, b)) => o == p && a.same(b),
             (Expr::Binary(o, a, b), Expr::Binary(p, c, d)) => o == p && a.same(c) && b.same(d),
             (Expr::If(a, b, c), Expr::If(d, e, f)) => a.same(d) && b.same(e) && c.same(f),
+            (Expr::MultiplyDivide(a, b, c), Expr::MultiplyDivide(d, e, f)) => {
+                a.same(d) && b.same(e) && c.same(f)
+            }
+            (Expr::At(m, k, a), Expr::At(n, l, b)) => m == n && k == l && a.same(b),
             _ => false,
         }
     }

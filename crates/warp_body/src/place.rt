@@ -1,10 +1,12 @@
 //! What a body reads and writes: the variables, and what is present.
 ghost use Rattle.std.specs.Prelude.{◌≡◌, ℕ, ℤ, ◌<◌, List, length, slice_index_or, slice_set, Option, Some, None, pos};
-ghost use Rattle.std.specs.Prelude.{IfOk, ◌==◌, IsTrue, nat_lt};
+ghost use Rattle.std.specs.Prelude.{◌+◌, ◌≤◌, IfOk, ◌==◌, IsTrue, nat_lt};
 ghost use Rattle.std.specs.List.{list_all};
+ghost use Rattle.warp_body.specs.Cell.{with_cell};
 ghost use Rattle.warp_body.specs.Presence.{Presence, places_of, target_fits, nothing_present, present_at, with_value};
 ghost use Rattle.warp_body.specs.Presence.{kind_of, number_of, target_before, is_target};
 
+use crate::cell::write_cell;
 use crate::slots::{Slot, Slots};
 use std::alloc::Global;
 use std::marker::Model;
@@ -162,6 +164,15 @@ impl Vars {
         ensures { self.new ≡ slice_set self.old variable value }
     {
         self.values[variable as usize] = value;
+    }
+
+    /// Sets a cell of an array, of so many variables from the first one on; nothing where there is none with this number.
+    pub fn set_cell(&mut self, first: u32, count: u32, index: i64, value: i64)
+        requires { first + count ≤ length self.old }
+        ensures cell { self.new ≡ with_cell self.old first count index value }
+        ensures len { length self.new ≡ length self.old }
+    {
+        write_cell(&mut self.values, first, count, index, value);
     }
 }
 

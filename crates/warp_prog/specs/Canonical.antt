@@ -6,9 +6,9 @@ use Rattle.std.specs.Fmt.{signed_decimal}
 use Rattle.sha2.specs.Sha256.{sha256}
 use Rattle.hex.specs.Hex.{encode_lower}
 use Rattle.warp_body.specs.declared.operator.UnaryOperator.{UnaryOperator}
-use Rattle.warp_body.specs.declared.operator.UnaryOperator.TheVariants.{Negate, Not}
+use Rattle.warp_body.specs.declared.operator.UnaryOperator.TheVariants.{Negate, Not, Absolute}
 use Rattle.warp_body.specs.declared.operator.BinaryOperator.{BinaryOperator}
-use Rattle.warp_body.specs.declared.operator.BinaryOperator.TheVariants.{Add, Subtract, Multiply, Divide, Remainder, Equal, Less, And, Or}
+use Rattle.warp_body.specs.declared.operator.BinaryOperator.TheVariants.{Add, Subtract, Multiply, Divide, Remainder, Equal, Less, And, Or, Minimum, Maximum, BitAnd, BitOr, BitXor, ShiftLeft, ShiftRight, Mix}
 use Rattle.warp_prog.specs.Explain.{port_label}
 use Rattle.warp_prog.specs.File.{Word, File, ReactorPart, ReactionPart, NamedTerm, Literal, Named, PresentNamed, OneNamed, TwoNamed, ChoiceNamed, NamedStatement, SetNamed, PutNamed, ScheduleNamed, ChooseNamed, NamedBody, NamedDone, NamedThen}
 use Rattle.warp_prog.specs.Reading.{reading_of}
@@ -40,6 +40,7 @@ quoted w = codes "\"" ++ w ++ codes "\""
 abbrev pub unary_word : UnaryOperator → List ℕ
 unary_word Negate = codes "neg"
 unary_word Not = codes "not"
+unary_word Absolute = codes "abs"
 
 -- the word of an operator over two parts
 abbrev pub binary_word : BinaryOperator → List ℕ
@@ -52,6 +53,14 @@ binary_word Equal = codes "="
 binary_word Less = codes "<"
 binary_word And = codes "and"
 binary_word Or = codes "or"
+binary_word Minimum = codes "min"
+binary_word Maximum = codes "max"
+binary_word BitAnd = codes "&"
+binary_word BitOr = codes "|"
+binary_word BitXor = codes "^"
+binary_word ShiftLeft = codes "<<"
+binary_word ShiftRight = codes ">>"
+binary_word Mix = codes "mix"
 
 -- the front of a list that begins with a word
 abbrev pub word_front : List ℕ → List ℕ

@@ -13,17 +13,18 @@ use crate::name::Name;
 use std::alloc::AllocError;
 use warp_body::{BinaryOperator, UnaryOperator};
 
-/// The word of an operator over one part.
+/// The word of an operator over one part. No file has all of them yet: `abs` comes with version 4.
 fn unary_word(operator: UnaryOperator) -> &'static str
     ensures { result.now ≡ unary_word operator }
 {
     match operator {
         UnaryOperator::Negate => "neg",
         UnaryOperator::Not => "not",
+        UnaryOperator::Absolute => "abs",
     }
 }
 
-/// The word of an operator over two parts.
+/// The word of an operator over two parts. No file has all of them yet: those behind `or` come with version 4.
 fn binary_word(operator: BinaryOperator) -> &'static str
     ensures { result.now ≡ binary_word operator }
 {
@@ -37,6 +38,14 @@ fn binary_word(operator: BinaryOperator) -> &'static str
         BinaryOperator::Less => "<",
         BinaryOperator::And => "and",
         BinaryOperator::Or => "or",
+        BinaryOperator::Minimum => "min",
+        BinaryOperator::Maximum => "max",
+        BinaryOperator::BitAnd => "&",
+        BinaryOperator::BitOr => "|",
+        BinaryOperator::BitXor => "^",
+        BinaryOperator::ShiftLeft => "<<",
+        BinaryOperator::ShiftRight => ">>",
+        BinaryOperator::Mix => "mix",
     }
 }
 

@@ -152,7 +152,7 @@ impl Marks {
     fn mark_body(&mut self, actions: &[Action], body: &[Stmt]) {
         for statement in body {
             match statement {
-                Stmt::Set(..) => {}
+                Stmt::Set(..) | Stmt::SetAt(..) => {}
                 Stmt::Put(port, _) => mark(&mut self.ports, *port),
                 Stmt::Schedule(action, delay, _) => {
                     if *delay == 0 && lacks_delay(actions, *action) {
@@ -163,6 +163,7 @@ impl Marks {
                     self.mark_body(actions, first);
                     self.mark_body(actions, second);
                 }
+                Stmt::While(_, _, body) => self.mark_body(actions, body),
             }
         }
     }
