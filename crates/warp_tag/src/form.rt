@@ -3,7 +3,7 @@ ghost use Rattle.std.specs.Prelude.{◌≡◌, ◌≤◌};
 ghost use Rattle.warp_tag.specs.Limits as limits;
 
 /// The limits that a program, its lines and its replies keep to. A program of version 1 has the first, one of version 2
-/// the second, one of version 3 the third. Whatever is in range in one is in range in each behind it.
+/// the second, one of version 3 the third, one of version 4 the fourth. Whatever is in range in one is in range in each behind it.
 #[derive(Clone, Copy, Debug, PartialEq, Eq)]
 pub enum Form {
     /// A stop of up to 1,000,000, microsteps 0 to 15, 32 origins, logs of 100,000 records, boards of 4,096 rows.
@@ -13,6 +13,8 @@ pub enum Form {
     /// A stop of up to 15,624,999, microsteps and origins as in the second, logs of 10,000,000 records, boards of
     /// 1,048,576 rows.
     Three,
+    /// As the third; and all origins together can announce.
+    Four,
 }
 
 impl Form {
@@ -23,7 +25,7 @@ impl Form {
         match self {
             Form::One => 1_000_000,
             Form::Two => 10_000_000,
-            Form::Three => 15_624_999,
+            Form::Three | Form::Four => 15_624_999,
         }
     }
 
@@ -34,7 +36,7 @@ impl Form {
         match self {
             Form::One => 1_000_001,
             Form::Two => 10_000_001,
-            Form::Three => 15_625_000,
+            Form::Three | Form::Four => 15_625_000,
         }
     }
 
@@ -44,7 +46,7 @@ impl Form {
     {
         match self {
             Form::One => 15,
-            Form::Two | Form::Three => 255,
+            Form::Two | Form::Three | Form::Four => 255,
         }
     }
 
@@ -55,7 +57,7 @@ impl Form {
         match self {
             Form::One => 1_000_000,
             Form::Two => 10_000_000,
-            Form::Three => 15_624_999,
+            Form::Three | Form::Four => 15_624_999,
         }
     }
 
@@ -65,7 +67,7 @@ impl Form {
     {
         match self {
             Form::One => 32,
-            Form::Two | Form::Three => 64,
+            Form::Two | Form::Three | Form::Four => 64,
         }
     }
 
@@ -76,7 +78,7 @@ impl Form {
     {
         match self {
             Form::One | Form::Two => 100_000,
-            Form::Three => 10_000_000,
+            Form::Three | Form::Four => 10_000_000,
         }
     }
 
@@ -87,7 +89,17 @@ impl Form {
     {
         match self {
             Form::One | Form::Two => 4_096,
-            Form::Three => 1_048_576,
+            Form::Three | Form::Four => 1_048_576,
+        }
+    }
+
+    /// Whether all origins together can announce.
+    pub fn has_joint(self) -> bool
+        ensures { result ≡ limits.has_joint self }
+    {
+        match self {
+            Form::One | Form::Two | Form::Three => false,
+            Form::Four => true,
         }
     }
 
@@ -98,6 +110,7 @@ impl Form {
         match (self, other) {
             (Form::One, other) => other,
             (Form::Two, Form::Three) => Form::Three,
+            (Form::Two | Form::Three, Form::Four) => Form::Four,
             (form, _) => form,
         }
     }
