@@ -71,32 +71,53 @@ most_origins Three = 64
 most_origins Four = 64
 
 -- the most reactors of a program
-abbrev pub most_reactors : ℕ
-most_reactors = 64
+abbrev pub most_reactors : Form → ℕ
+most_reactors One = 64
+most_reactors Two = 64
+most_reactors Three = 64
+most_reactors Four = 256
 
--- the most variables of a program
-abbrev pub most_variables : ℕ
-most_variables = 256
+-- the most variables of a program, the cells of its arrays among them
+abbrev pub most_variables : Form → ℕ
+most_variables One = 256
+most_variables Two = 256
+most_variables Three = 256
+most_variables Four = 66560
 
 -- the most ports of a program, inputs and outputs of its reactors together
-abbrev pub most_ports : ℕ
-most_ports = 256
+abbrev pub most_ports : Form → ℕ
+most_ports One = 256
+most_ports Two = 256
+most_ports Three = 256
+most_ports Four = 1024
 
 -- the most reactions of a program
-abbrev pub most_reactions : ℕ
-most_reactions = 256
+abbrev pub most_reactions : Form → ℕ
+most_reactions One = 256
+most_reactions Two = 256
+most_reactions Three = 256
+most_reactions Four = 1024
 
 -- the most links of a program
-abbrev pub most_links : ℕ
-most_links = 256
+abbrev pub most_links : Form → ℕ
+most_links One = 256
+most_links Two = 256
+most_links Three = 256
+most_links Four = 1024
 
 -- the most actions of a program
-abbrev pub most_actions : ℕ
-most_actions = 64
+abbrev pub most_actions : Form → ℕ
+most_actions One = 64
+most_actions Two = 64
+most_actions Three = 64
+most_actions Four = 256
 
 -- the most timers of a program
-abbrev pub most_timers : ℕ
-most_timers = 16
+abbrev pub most_timers : Form → ℕ
+most_timers One = 16
+most_timers Two = 16
+most_timers Three = 16
+most_timers Four = 64
 
 -- the most schedulings of a body
 abbrev pub most_wishes : ℕ
@@ -111,12 +132,18 @@ abbrev pub greatest_count : ℕ
 greatest_count = 18446744073709551615
 
 -- the most inputs of a program
-abbrev pub most_inputs : ℕ
-most_inputs = 64
+abbrev pub most_inputs : Form → ℕ
+most_inputs One = 64
+most_inputs Two = 64
+most_inputs Three = 64
+most_inputs Four = 256
 
 -- the most outputs of a program
-abbrev pub most_outputs : ℕ
-most_outputs = 64
+abbrev pub most_outputs : Form → ℕ
+most_outputs One = 64
+most_outputs Two = 64
+most_outputs Three = 64
+most_outputs Four = 256
 
 -- the greatest number of a variable, an output, a place or a row that a line can name
 abbrev pub last_number : ℕ

@@ -13,7 +13,8 @@ pub enum Form {
     /// A stop of up to 15,624,999, microsteps and origins as in the second, logs of 10,000,000 records, boards of
     /// 1,048,576 rows.
     Three,
-    /// As the third; and all origins together can announce.
+    /// As the third, with more of each thing in a program, arrays and loops in its bodies, and announcements of all
+    /// origins together.
     Four,
 }
 
@@ -90,6 +91,105 @@ impl Form {
         match self {
             Form::One | Form::Two => 4_096,
             Form::Three | Form::Four => 1_048_576,
+        }
+    }
+
+    /// The most reactors of a program.
+    pub fn most_reactors(self) -> u32
+        ensures value { result ≡ limits.most_reactors self }
+        ensures range { result ≤ limits.most_reactors limits.widest }
+    {
+        match self {
+            Form::One | Form::Two | Form::Three => 64,
+            Form::Four => 256,
+        }
+    }
+
+    /// The most variables of a program, the cells of its arrays among them.
+    pub fn most_variables(self) -> u32
+        ensures value { result ≡ limits.most_variables self }
+        ensures range { result ≤ limits.most_variables limits.widest }
+    {
+        match self {
+            Form::One | Form::Two | Form::Three => 256,
+            Form::Four => 66_560,
+        }
+    }
+
+    /// The most ports of a program, inputs and outputs of its reactors together.
+    pub fn most_ports(self) -> u32
+        ensures value { result ≡ limits.most_ports self }
+        ensures range { result ≤ limits.most_ports limits.widest }
+    {
+        match self {
+            Form::One | Form::Two | Form::Three => 256,
+            Form::Four => 1_024,
+        }
+    }
+
+    /// The most reactions of a program.
+    pub fn most_reactions(self) -> u32
+        ensures value { result ≡ limits.most_reactions self }
+        ensures range { result ≤ limits.most_reactions limits.widest }
+    {
+        match self {
+            Form::One | Form::Two | Form::Three => 256,
+            Form::Four => 1_024,
+        }
+    }
+
+    /// The most links of a program.
+    pub fn most_links(self) -> u32
+        ensures value { result ≡ limits.most_links self }
+        ensures range { result ≤ limits.most_links limits.widest }
+    {
+        match self {
+            Form::One | Form::Two | Form::Three => 256,
+            Form::Four => 1_024,
+        }
+    }
+
+    /// The most actions of a program.
+    pub fn most_actions(self) -> u32
+        ensures value { result ≡ limits.most_actions self }
+        ensures range { result ≤ limits.most_actions limits.widest }
+    {
+        match self {
+            Form::One | Form::Two | Form::Three => 64,
+            Form::Four => 256,
+        }
+    }
+
+    /// The most timers of a program.
+    pub fn most_timers(self) -> u32
+        ensures value { result ≡ limits.most_timers self }
+        ensures range { result ≤ limits.most_timers limits.widest }
+    {
+        match self {
+            Form::One | Form::Two | Form::Three => 16,
+            Form::Four => 64,
+        }
+    }
+
+    /// The most inputs of a program.
+    pub fn most_inputs(self) -> u32
+        ensures value { result ≡ limits.most_inputs self }
+        ensures range { result ≤ limits.most_inputs limits.widest }
+    {
+        match self {
+            Form::One | Form::Two | Form::Three => 64,
+            Form::Four => 256,
+        }
+    }
+
+    /// The most outputs of a program.
+    pub fn most_outputs(self) -> u32
+        ensures value { result ≡ limits.most_outputs self }
+        ensures range { result ≤ limits.most_outputs limits.widest }
+    {
+        match self {
+            Form::One | Form::Two | Form::Three => 64,
+            Form::Four => 256,
         }
     }
 
