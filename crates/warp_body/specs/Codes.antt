@@ -4,7 +4,7 @@ use Rattle.std.specs.Prelude.{◌≡◌, ℕ, ℤ, pos, List, [], ◌∷◌, ◌
 use Rattle.std.specs.Coded.{Coded, code_by, coded×, coded_ℕ, coded_ℤ, coded_list}
 use Rattle.std.proofs.Common.{◌∙◌, ap}
 use Rattle.warp_body.specs.Presence.{kind_of, number_of}
-use Rattle.warp_body.specs.Term.{Term, Constant, VariableAt, ValueAt, PresentAt, OfOne, OfTwo, Choice, ProductOver, CellAt}
+use Rattle.warp_body.specs.Term.{Term, Constant, VariableAt, ValueAt, PresentAt, OfOne, OfTwo, Choice, ProductOver, CellAt, TimeNow, MicrostepNow}
 use Rattle.warp_body.specs.Effect.{Statement, SetVariable, PutOutput, ScheduleAction, Choose, SetCell, Repeat, Body, Done, Then}
 use Rattle.warp_body.specs.declared.place.Target.{Target}
 use Rattle.warp_body.specs.declared.place.Target.TheVariants.{Startup, Timer, Action, Port}
@@ -112,6 +112,8 @@ spelled (OfTwo o a b) rest = spelled a (spelled b (mark 5 (binary_number o) 0 �
 spelled (Choice c a b) rest = spelled c (spelled a (spelled b (mark 6 0 0 ∷ rest)))
 spelled (ProductOver a b c) rest = spelled a (spelled b (spelled c (mark 15 0 0 ∷ rest)))
 spelled (CellAt first count index) rest = spelled index (mark 12 first count ∷ rest)
+spelled TimeNow rest = mark 16 0 0 ∷ rest
+spelled MicrostepNow rest = mark 17 0 0 ∷ rest
 
 -- the same of a statement and of a body, whose last statements come first
 abbrev mutual
@@ -216,10 +218,12 @@ with_mark m now =
     (if m.0 == 6 then record now { terms = choice_of_newest now.terms } else
     (if m.0 == 15 then record now { terms = product_of_newest now.terms } else
     (if m.0 == 12 then record now { terms = cell_of_newest m.1.0 m.1.1.0 now.terms } else
+    (if m.0 == 16 then with_term TimeNow now else
+    (if m.0 == 17 then with_term MicrostepNow now else
     (if m.0 == 7 then with_body Done now else
     (if m.0 == 11 then with_choice now.terms now.bodies else
     (if m.0 == 13 then with_set_cell m.1.0 m.1.1.0 now.terms now.bodies else
-    (if m.0 == 14 then with_loop m.1.0 now.terms now.bodies else with_statement m now.terms now.bodies))))))))))))
+    (if m.0 == 14 then with_loop m.1.0 now.terms now.bodies else with_statement m now.terms now.bodies))))))))))))))
 
 -- and after a list of nodes
 abbrev pub read : List Mark → Stacks → Stacks
@@ -259,6 +263,8 @@ read-spelled (ProductOver a b c) rest now =
     ∙ read-spelled b (spelled c (mark 15 0 0 ∷ rest)) (with_term a now)
     ∙ read-spelled c (mark 15 0 0 ∷ rest) (with_term b (with_term a now))
 read-spelled (CellAt first count index) rest now = read-spelled index (mark 12 first count ∷ rest) now
+read-spelled TimeNow rest now = refl
+read-spelled MicrostepNow rest now = refl
 
 -- and the statement, in front of the newest body, and the body
 mutual

@@ -32,6 +32,10 @@ pub enum Expr {
     /// The value of a cell of an array, which is a range of variables: the number of its first variable, how many there
     /// are, and the number of the cell, from 0. It is 0 where there is no cell with this number.
     At(u32, u32, Box<Expr>),
+    /// The time of the tag that is executed.
+    Time,
+    /// Its microstep.
+    Microstep,
 }
 
 /// The value of an expression, whose places and variables are among these.
@@ -73,6 +77,8 @@ fn evaluate(expr: &Expr, vars: &[i64], present: &Present) -> i64
             let number = evaluate(index, vars, present);
             read_cell(vars, *first, *count, number)
         }
+        Expr::Time => present.tag().time() as i64,
+        Expr::Microstep => i64::from(present.tag().micro()),
     }
 }
 
@@ -82,7 +88,7 @@ impl Expr {
         ensures { result ≡ term_fits sizes (term_of self.now) }
     {
         match self {
-            Expr::Number(_) => true,
+            Expr::Number(_) | Expr::Time | Expr::Microstep => true,
             Expr::Variable(k) => (*k as usize) < sizes.vars,
             Expr::Value(target) | Expr::Present(target) => target.fits(sizes.places),
             Expr::Unary(_, a) => a.fits(sizes),
@@ -129,6 +135,8 @@ impl Expr {
                 let index = boxed(alloc, index.copy(alloc))?;
                 Ok(Expr::At(*first, *count, index))
             }
+            Expr::Time => Ok(Expr::Time),
+            Expr::Microstep => Ok(Expr::Microstep),
         }
     }
 
@@ -148,6 +156,7 @@ impl Expr {
                 a.same(d) && b.same(e) && c.same(f)
             }
             (Expr::At(m, k, a), Expr::At(n, l, b)) => m == n && k == l && a.same(b),
+            (Expr::Time, Expr::Time) | (Expr::Microstep, Expr::Microstep) => true,
             _ => false,
         }
     }
