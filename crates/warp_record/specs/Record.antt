@@ -13,7 +13,7 @@ use Rattle.warp_record.specs.declared.record.Record.TheVariants.{Event, Withdraw
 pub record IsEvent (f : Form) (origin : ℕ) (tag : Moment) (input : ℕ) (value : ℤ) : Type 0 where
   pub origin_fits : origin < most_origins f
   pub tag_fits : IsTagOf f tag
-  pub input_fits : input < most_inputs
+  pub input_fits : input < most_inputs f
   pub value_fits : FitsSigned w64 value
 
 -- the ranges of a withdrawal in a form

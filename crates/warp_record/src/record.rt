@@ -15,9 +15,6 @@ use crate::room::{RECORD_ROOM, REPLY_ROOM};
 use crate::split::{is_all, is_keyword};
 use warp_tag::{Form, Tag};
 
-/// The last program input that a line can name.
-pub const LAST_INPUT: u32 = 63;
-
 /// The first word of an event.
 pub(crate) const EVENT: &[u8] = b"event";
 
@@ -39,7 +36,7 @@ pub enum Record {
         origin: u32,
         /// When.
         tag: Tag,
-        /// The number of the program input, 0 to `LAST_INPUT`.
+        /// The number of the program input, 0 to 63, in form Four to 255.
         input: u32,
         /// The input's value.
         value: i64,
@@ -111,6 +108,14 @@ pub(crate) fn last_origin(form: Form) -> u32
     form.most_origins() - 1
 }
 
+/// The last program input that a line of this form can name.
+#[inline(always)]
+pub(crate) fn last_input(form: Form) -> u32
+    ensures { result + 1 ≡ most_inputs form }
+{
+    form.most_inputs() - 1
+}
+
 /// The tag in range in this form whose words these are.
 pub(crate) fn read_tag(form: Form, time: &[u8], micro: &[u8]) -> Option<Tag>
     ensures found { IfSome result
@@ -131,17 +136,17 @@ fn read_count(form: Form, word: &[u8]) -> Option<Count>
     Count::new(read_u32(word, form.most_records())?)
 }
 
-/// The input and the value whose words these are.
-fn read_value(words: &[&[u8]]) -> Option<(u32, i64)>
-    ensures found { IfSome result (λ given. (given.0 < most_inputs) × FitsSigned w64 given.1 ×
+/// The input and the value in range in this form whose words these are.
+fn read_value(form: Form, words: &[&[u8]]) -> Option<(u32, i64)>
+    ensures found { IfSome result (λ given. (given.0 < most_inputs form) × FitsSigned w64 given.1 ×
         (map (λ word. word.now) words.now ≡ decimal given.0 ∷ signed_decimal given.1 ∷ [])) }
-    ensures none { IfNone result ((input : ℕ) (value : ℤ) → input < most_inputs → FitsSigned w64 value →
+    ensures none { IfNone result ((input : ℕ) (value : ℤ) → input < most_inputs form → FitsSigned w64 value →
         map (λ word. word.now) words.now ≡ decimal input ∷ signed_decimal value ∷ [] → ⊥) }
 {
     let [input, value] = words else {
         return None;
     };
-    let input = read_u32(input, LAST_INPUT)?;
+    let input = read_u32(input, last_input(form))?;
     let value = read_int(value)?;
     Some((input, value))
 }
@@ -218,7 +223,7 @@ pub fn read_record(form: Form, words: &[&[u8]]) -> Option<Record>
     let origin = read_u32(origin, last_origin(form))?;
     let tag = read_tag(form, time, micro)?;
     if is_keyword(word, EVENT) {
-        let (input, value) = read_value(operands)?;
+        let (input, value) = read_value(form, operands)?;
         Some(Record::Event {
             origin,
             tag,

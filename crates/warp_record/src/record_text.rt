@@ -10,7 +10,7 @@ ghost use Rattle.warp_record.specs.inner.Behind.{words_behind};
 
 use crate::count::Count;
 use crate::cut::{are_four, cut_last_int, cut_number, cut_u32, is_at_end};
-use crate::record::{LAST_INPUT, Record, last_origin};
+use crate::record::{Record, last_input, last_origin};
 use warp_tag::{Form, Tag};
 
 /// What is left behind the word `event` and the space that follows it.
@@ -107,7 +107,7 @@ fn event_of(form: Form, text: &[u8]) -> Option<Record>
 {
     let (origin, time, micro, text) = cut_name(form, text)?;
     let tag = Tag::new(time, micro)?;
-    let (input, text) = cut_u32(text, LAST_INPUT)?;
+    let (input, text) = cut_u32(text, last_input(form))?;
     let value = cut_last_int(text)?;
     Some(Record::Event {
         origin,
