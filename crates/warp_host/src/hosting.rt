@@ -1,10 +1,10 @@
 //! A host from its start to its end: the worker in this thread, and those beside it.
 
 use crate::bells::Bells;
+use crate::channel::Channel;
 use crate::descriptors::clients_within;
 use crate::entrance::Entrance;
 use crate::fresh_file::FreshFiles;
-use crate::input_end::InputEnd;
 use crate::links::Links;
 use crate::lookup::{Lookup, Seeking, make_lookup, spelled_address};
 use crate::operator;
@@ -15,6 +15,7 @@ use crate::writing::{Writers, durable_of, end_writing, make_writers, start_writi
 use mio::net::TcpListener;
 use mio::{Events, Interest, Poll, Waker};
 use std::alloc::{AllocError, Global};
+use std::fs::Files;
 use std::hash::RandomState;
 use std::io::{self, Eprint};
 use std::net::{self, Net};
@@ -70,11 +71,11 @@ pub struct Served {
 }
 
 /// What a host needs of the system.
-pub trait System: Eprint + FreshFiles + Threads + Wait + Clock + RandomSource + Sync {}
+pub trait System: Eprint + Files + FreshFiles + Threads + Wait + Clock + RandomSource + Sync {}
 
 impl<X> System for X
 where
-    X: Eprint + FreshFiles + Threads + Wait + Clock + RandomSource + Sync,
+    X: Eprint + Files + FreshFiles + Threads + Wait + Clock + RandomSource + Sync,
 {}
 
 /// What runs beside the worker: the threads of the journal, and the one that looks names up, where they are wanted.
@@ -192,7 +193,7 @@ fn run_beside<'s, E, X, T: Timeline, P: LastDone<T>>(
 ) -> Result<(), HostFault>
 where
     X: Net<Listener = net::TcpListener, Stream = net::TcpStream> + 's,
-    X: Eprint + FreshFiles + Threads + Wait + Clock + Sync,
+    X: Eprint + Files + FreshFiles + Threads + Wait + Clock + Sync,
 {
     let Beside { writers, lookup } = beside;
     let Ok(writing) = start_writing(scope, rt, writers) else {
@@ -244,6 +245,12 @@ fn make_entrance<X: Eprint>(
     Ok(Entrance::new(poll, listener))
 }
 
+/// Standard input and output, as the options want them.
+fn make_channel(alloc: Global, poll: &Poll, options: &mut Options) -> Channel {
+    let tokens_at = options.tokens_at.take();
+    Channel::new(alloc, poll, options.until_input_ends, options.operator, tokens_at)
+}
+
 /// The worker with its machine.
 fn make_worker<X: Offers + RandomSource, T: Timeline>(
     rt: &X,
@@ -255,19 +262,19 @@ fn make_worker<X: Offers + RandomSource, T: Timeline>(
     replica: Replica<T>,
     facts: Facts,
     labels: Labels,
-    options: Options,
+    mut options: Options,
 ) -> Result<Worker<T>, HostFault> {
     let now = micros_of(or_told(rt, "time", rt.monotonic())?);
     let buffer = vec![in alloc; 0u8; READ]?;
     let entrance = make_entrance(rt, &poll, listener)?;
-    let input = InputEnd::new(&poll, options.until_input_ends);
+    let channel = make_channel(alloc, &poll, &mut options);
     let links = Links::new(alloc, options.peers.len())?;
     let machine = make_machine(rt, alloc, replica, facts, labels, pages, options, now)?;
     Ok(Worker {
         alloc,
         poll,
         entrance: Some(entrance),
-        input,
+        channel,
         seats: Seats::new(alloc),
         links,
         ends,

@@ -6,17 +6,19 @@
 #![tactic(auto)]
 
 mod bells;
+mod channel;
 mod descriptors;
 mod durable;
 mod entrance;
 mod fresh_file;
 mod handing;
 mod hosting;
-mod input_end;
 mod journal_faults;
 mod journal_file;
 mod links;
 mod lookup;
+mod named_file;
+mod operating;
 mod operator;
 mod options;
 mod renewal;
@@ -25,6 +27,7 @@ mod seats;
 mod socket;
 mod syncing;
 mod tallies;
+mod token_file;
 mod worker;
 mod writing;
 
@@ -34,6 +37,8 @@ pub use journal_faults::{FileFault, OpenFault, tell_file_fault};
 pub use journal_file::{
     FirstLines, JournalFile, OpenJournal, SyncWhen, lock_journal, open_journal, words_of,
 };
+pub use named_file::{NO_FILE, is_no_file, tell_file, tell_line, tell_of_file};
 pub use options::{DEFAULT_CLIENTS, MOST_CLIENTS, MOST_PEERS, Options, may_listen};
+pub use token_file::{LONGEST_SAID, TokenFault, TokensAt, is_silent, token_text};
 pub use warp_machine::{LastDone, PeerAt};
 pub use warp_pages::Names;

@@ -4,6 +4,7 @@ ghost use Rattle.std.specs.Prelude.{◌↔◌, IsTrue};
 ghost use Rattle.warp_host.specs.Listening.{MayListen};
 
 use crate::journal_file::OpenJournal;
+use crate::token_file::TokensAt;
 use std::net::IpAddr;
 use warp_hub::Tokens;
 use warp_machine::PeerAt;
@@ -30,6 +31,10 @@ pub struct Options {
     pub peers: Vec<PeerAt>,
     /// Whether the host ends with its standard input.
     pub until_input_ends: bool,
+    /// Whether standard input has lines of its operator.
+    pub operator: bool,
+    /// Where the tokens of clients are read again, where there are some.
+    pub tokens_at: Option<TokensAt>,
     /// The journal, whose records the replica has taken.
     pub journal: Option<OpenJournal>,
 }

@@ -3,11 +3,11 @@
 //! It decides nothing: each of its branches is on a result of the system, or on what the machine says.
 
 use crate::bells::Bells;
+use crate::channel::Channel;
 use crate::durable::Durable;
 use crate::entrance::{Arrival, Entrance};
 use crate::handing::Handing;
 use crate::hosting::HostFault;
-use crate::input_end::InputEnd;
 use crate::links::{FIRST_PEER, Links};
 use crate::lookup::{Seeking, spelled_address};
 use crate::operator;
@@ -16,6 +16,7 @@ use mio::event::Event;
 use mio::net::TcpStream;
 use mio::{Events, Interest, Poll, Token};
 use std::alloc::Global;
+use std::fs::Files;
 use std::io::Eprint;
 use std::net::Net;
 use std::sync::Wait;
@@ -32,6 +33,8 @@ pub(crate) const WAKER: Token = Token(usize::MAX - 1);
 
 pub(crate) const INPUT: Token = Token(usize::MAX - 2);
 
+pub(crate) const OUTPUT: Token = Token(usize::MAX - 3);
+
 /// So many connections are accepted in a round at most.
 const MOST_ARRIVALS: u32 = 64;
 
@@ -45,11 +48,11 @@ const SECOND: u64 = 1_000_000;
 const MOMENT: u64 = 1;
 
 /// What the system offers to a worker.
-pub(crate) trait Offers: Eprint + Net + Wait + Clock {}
+pub(crate) trait Offers: Eprint + Net + Wait + Clock + Files {}
 
 impl<X> Offers for X
 where
-    X: Eprint + Net + Wait + Clock,
+    X: Eprint + Net + Wait + Clock + Files,
 {}
 
 /// What threads share beside their rings.
@@ -72,7 +75,7 @@ pub(crate) struct Worker<T: Timeline> {
     pub(crate) alloc: Global,
     pub(crate) poll: Poll,
     pub(crate) entrance: Option<Entrance>,
-    pub(crate) input: InputEnd,
+    pub(crate) channel: Channel,
     pub(crate) seats: Seats,
     pub(crate) links: Links,
     pub(crate) ends: Ends,
@@ -153,6 +156,7 @@ impl<T: Timeline> Worker<T> {
             }
             WAKER => {}
             INPUT => self.may_read_input = true,
+            OUTPUT => self.channel.note_output(),
             Token(key) if key >= FIRST_PEER => self.links.note(key - FIRST_PEER, event),
             Token(key) => self.seats.note(u32::try_from(key).unwrap_or(u32::MAX), event),
         }
@@ -163,7 +167,7 @@ impl<T: Timeline> Worker<T> {
         self.accept_some();
         self.serve_some();
         self.look_at_links();
-        self.look_at_input();
+        self.look_at_input(rt, shared.durable);
         // What other threads make from now on wakes the worker.
         shared.bells.worker_sleeps();
         self.look_at_journal(shared.durable);
@@ -394,7 +398,7 @@ impl<T: Timeline> Worker<T> {
     }
 
     /// Has the machine do what is due, and looks at what no event tells of.
-    fn tick<X: Eprint>(&mut self, rt: &X, durable: &Durable) {
+    fn tick<X: Eprint + Files>(&mut self, rt: &X, durable: &Durable) {
         if self.machine.due() <= self.now {
             let seen = self.seen(durable);
             self.machine.seen(seen);
@@ -404,9 +408,9 @@ impl<T: Timeline> Worker<T> {
             return;
         }
         self.looked = self.now;
-        if self.input.is_always_ready() {
+        if self.channel.is_always_ready() {
             self.may_read_input = true;
-            self.look_at_input();
+            self.look_at_input(rt, durable);
         }
         if let Some(entrance) = &mut self.entrance {
             entrance.try_again();
@@ -425,7 +429,7 @@ impl<T: Timeline> Worker<T> {
     }
 
     /// What the system knows that is measured.
-    fn seen(&self, durable: &Durable) -> JournalSeen {
+    pub(crate) fn seen(&self, durable: &Durable) -> JournalSeen {
         let (_, unsynced) = durable.waiting();
         JournalSeen {
             records: durable.synced(),
@@ -436,14 +440,6 @@ impl<T: Timeline> Worker<T> {
                 None => 0,
             },
         }
-    }
-
-    /// Reads standard input, if there may be something. Its end is told, behind what came before it.
-    fn look_at_input(&mut self) {
-        if self.may_read_input && self.input.look(&self.poll) {
-            self.machine.input_ended(self.now);
-        }
-        self.may_read_input = false;
     }
 
     /// Does what the machine wants.

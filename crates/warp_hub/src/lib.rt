@@ -31,6 +31,6 @@ pub use hub::{Hub, Unjoined};
 pub use laws::{answers_go_to_their_askers, pages_leave_nothing_out};
 pub use rights::{MOST_ORIGINS, Rights};
 pub use said::is_said;
-pub use tokens::{Tokens, TokensFault};
+pub use tokens::{Tokens, TokensFault, digest_of};
 pub use warp_watch::ClientId;
 pub use words::{Subject, Watch, Word, read_token, read_word};

@@ -203,11 +203,16 @@ impl<T: Timeline> Machine<T> {
     /// Standard input has ended: no more connections are let in, what clients said is answered, and the host ends once they
     /// are gone, within ten seconds.
     pub fn input_ended(&mut self, now: u64) {
+        self.end_in_order(Note::InputEnded, now);
+    }
+
+    /// The same, for the reason that this note tells.
+    pub(crate) fn end_in_order(&mut self, why: Note, now: u64) {
         self.now = now;
         if self.ending.is_some() {
             return;
         }
-        self.tell(Note::InputEnded);
+        self.tell(why);
         self.ending = Some(now);
         self.shuts = true;
         self.peers.clear();

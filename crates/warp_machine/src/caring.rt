@@ -185,7 +185,7 @@ impl<T: Timeline> Machine<T> {
     }
 
     /// Notes the horizon, where all is executed.
-    fn note_horizon(&mut self) {
+    pub(crate) fn note_horizon(&mut self) {
         if !self.clients.room().is_settled() {
             return;
         }

@@ -2,6 +2,7 @@
 
 use crate::action::Ending;
 use crate::conns::Conns;
+use crate::operating::Level;
 use crate::peering::Followed;
 use crate::start::{JournalSeen, Options, PeerAt, Start};
 use crate::stepping::Steps;
@@ -88,6 +89,8 @@ pub struct Machine<T: Timeline> {
     pub(crate) most_records: u32,
     /// The answer to `program`.
     program: Vec<u8>,
+    /// Which notes are told.
+    pub(crate) level: Level,
     /// The time of the last call.
     pub(crate) now: u64,
     /// Of so long a log may be told.
@@ -151,6 +154,7 @@ impl<T: Timeline> Machine<T> {
             options,
             most_records,
             program,
+            level: Level::Info,
             now,
             limit: 0,
             is_failing: false,
@@ -198,7 +202,7 @@ impl<T: Timeline> Machine<T> {
 
     /// An operator is to be told this.
     pub(crate) fn tell(&mut self, note: Note) {
-        if self.notes.len() < MOST_NOTES {
+        if self.level.tells(&note) && self.notes.len() < MOST_NOTES {
             let _ = self.notes.push_back(note);
         }
     }

@@ -2,10 +2,11 @@
 ghost use Rattle.std.specs.Prelude.{◌≡◌, IfErr, IfOk, MatchBool, OnErr, string_bytes};
 ghost use Rattle.warpd.specs.Outcome.{EndsHosting, Hosts, HostsAt, HostsPlanned, IsPrinted, KeepsFromHosting, host_line};
 
-use crate::client_tokens::tokens_in;
 use crate::host_program::{HostedProgram, fingerprint_in, hosted_program, version_of};
-use crate::host_words::{HostPlan, host_plan};
-use crate::outcome::{Outcome, outcome_of_hosting, outcome_of_journal};
+use crate::host_words::{HostPlan, TokenText, host_plan};
+use crate::outcome::{
+    Outcome, TokenFile, outcome_of_hosting, outcome_of_journal, outcome_of_tokens,
+};
 use crate::service::Host;
 use crate::stepping::{LastRow, Stepping};
 use crate::streams::Streams;
@@ -13,13 +14,17 @@ use crate::telling::tell_listen;
 use arrayvec::ArrayString;
 use mio::net::TcpListener;
 use std::alloc::{AllocError, Global};
+use std::io::Eprint;
 use std::net::{self, IpAddr, Net, SocketAddr};
-use warp_host::{FirstLines, Names, OpenJournal, Options, Served, host, open_journal};
-use warp_hub::Facts;
+use warp_host::{
+    FirstLines, Names, OpenJournal, Options, Served, SyncWhen, TokensAt, host, open_journal,
+};
+use warp_hub::{Facts, Tokens};
 use warp_journal::{first_line, old_first_line};
 use warp_line::Timeline;
 use warp_replica::Replica;
 use warp_session::{Sink, Source, write_all};
+use warp_step::Program;
 use warp_trace::Labels;
 use warp_words::HostJob;
 
@@ -37,6 +42,14 @@ struct Prepared<T: Timeline> {
     names_json: Vec<u8>,
     origins: Vec<String>,
     address: SocketAddr,
+}
+
+/// The tokens of clients, for lines and for HTTP, and where they are read again; none where there are none.
+#[derive(Drop)]
+struct ClientTokens {
+    lines: Option<Tokens>,
+    pages: Option<Tokens>,
+    at: Option<TokensAt>,
 }
 
 /// Hosts the program that the job names.
@@ -95,12 +108,13 @@ fn journal_of<P: Host, T: Timeline>(
     rt: &P,
     alloc: Global,
     identity: &[u8],
-    plan: &HostPlan,
+    path: &Option<String>,
+    sync: SyncWhen,
     replica: &mut Replica<T>,
 ) -> Result<Option<OpenJournal>, Outcome>
     ensures { IfErr result KeepsFromHosting }
 {
-    let Some(path) = &plan.journal else {
+    let Some(path) = path else {
         return Ok(None);
     };
     let version = version_of(replica.program().form());
@@ -114,9 +128,40 @@ fn journal_of<P: Host, T: Timeline>(
         new: &new,
         old: &old,
     };
-    match open_journal(rt, alloc, path.as_str(), plan.sync, lines, replica) {
+    match open_journal(rt, alloc, path.as_str(), sync, lines, replica) {
         Ok(journal) => Ok(Some(journal)),
         Err(fault) => Err(outcome_of_journal(fault)),
+    }
+}
+
+/// The tokens in the text of the file of tokens, if there is one, for this program.
+fn tokens_of<X: Eprint>(
+    rt: &X,
+    alloc: Global,
+    program: &Program,
+    file: Option<TokenText>,
+) -> Result<ClientTokens, Outcome>
+    ensures { IfErr result KeepsFromHosting }
+{
+    let Some(TokenText { path, text }) = file else {
+        return Ok(ClientTokens {
+            lines: None,
+            pages: None,
+            at: None,
+        });
+    };
+    let at = TokensAt {
+        path,
+        form: program.form(),
+        origins: program.origins(),
+    };
+    match at.both_in(rt, alloc, &text) {
+        Ok((lines, pages)) => Ok(ClientTokens {
+            lines: Some(lines),
+            pages: Some(pages),
+            at: Some(at),
+        }),
+        Err(fault) => Err(outcome_of_tokens(fault, TokenFile::Clients)),
     }
 }
 
@@ -130,9 +175,7 @@ fn prepare<P: Host, T: Timeline>(
     ensures { IfErr result KeepsFromHosting }
 {
     let form = hosted.program.form();
-    // One for the lines of clients, one for HTTP.
-    let tokens = tokens_in(rt, alloc, &hosted.program, &plan.tokens)?;
-    let again = tokens_in(rt, alloc, &hosted.program, &plan.tokens)?;
+    let ClientTokens { lines, pages, at } = tokens_of(rt, alloc, &hosted.program, plan.tokens)?;
     let HostedProgram {
         program,
         bytes,
@@ -146,7 +189,7 @@ fn prepare<P: Host, T: Timeline>(
     let Ok(mut replica) = Replica::new(alloc, program) else {
         return Err(Outcome::Memory);
     };
-    let journal = match journal_of(rt, alloc, &identity, &plan, &mut replica) {
+    let journal = match journal_of(rt, alloc, &identity, &plan.journal, plan.sync, &mut replica) {
         Ok(journal) => journal,
         Err(outcome) => return Err(outcome),
     };
@@ -157,7 +200,7 @@ fn prepare<P: Host, T: Timeline>(
             program: identity,
             names,
             most_clients,
-            tokens,
+            tokens: lines,
         },
         labels,
         bytes,
@@ -167,9 +210,11 @@ fn prepare<P: Host, T: Timeline>(
         options: Options {
             version: VERSION,
             clients: plan.clients,
-            tokens: again,
+            tokens: pages,
             peers: plan.peers,
             until_input_ends: plan.until_input_ends,
+            operator: plan.operator,
+            tokens_at: at,
             journal,
         },
     })
