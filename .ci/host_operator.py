@@ -28,7 +28,9 @@ class Operated:
             begun = command or [hosting.PROGRAM, "host"]
             line = [*begun, TWICE, "--listen", f"{HOST}:{self.port}", *([] if command else ["--operator"]), *words]
             with open(self.errors, "wb") as errors:
-                self.process = subprocess.Popen(list(map(str, line)), stdin=subprocess.PIPE, stdout=subprocess.PIPE, stderr=errors, env=env)
+                # Where a shell runs this behind `&`, SIGINT is ignored from there on.
+                self.process = subprocess.Popen(list(map(str, line)), stdin=subprocess.PIPE, stdout=subprocess.PIPE, stderr=errors, env=env,
+                                                preexec_fn=lambda: signal.signal(signal.SIGINT, signal.SIG_DFL))
             first = self.process.stdout.readline().decode()
             if first or not self.told().endswith("cannot listen\n"):
                 break

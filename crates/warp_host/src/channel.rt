@@ -24,6 +24,7 @@ const LONGEST_LINE: usize = 4_096;
 const MOST_WRITES: u32 = 16;
 
 /// What came of looking at standard input.
+#[derive(Clone, Copy)]
 pub(crate) enum Looked {
     /// So many bytes.
     Bytes(usize),

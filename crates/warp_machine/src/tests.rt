@@ -1,7 +1,8 @@
 //! A host over made-up time: what is written to its connections, and what it wants, on worked rows of the program `twice`.
 
 use crate::{
-    Action, ClientId, Ending, LastDone, Machine, NoteText, Options, PeerAction, PeerAt, Start,
+    Action, ClientId, Ending, LastDone, Machine, NoteText, Operated, OperatorAnswer, Options,
+    PeerAction, PeerAt, Start, Undone,
 };
 use arrayvec::ArrayString;
 use std::fmt::Write;
@@ -41,6 +42,10 @@ enum Act {
     Told(u32, bool),
     /// Standard input ends.
     Input,
+    /// The operator says this line, and is answered so.
+    Orders(&'static [u8], &'static str),
+    /// The operator has tokens read, whose file has this text or can't be read, and is answered so.
+    Rereads(Option<&'static [u8]>, &'static str),
     /// This was written to this connection since it was looked at last.
     Wrote(usize, &'static [u8]),
     /// This was written to it last.
@@ -319,12 +324,48 @@ impl Tries {
             Act::Passes(time) => self.now += time,
             Act::Told(limit, is_failing) => self.machine.told_up_to(limit, is_failing, self.now),
             Act::Input => self.machine.input_ended(self.now),
+            Act::Orders(line, text) => self.order(line, text)?,
+            Act::Rereads(file, text) => self.reread(file, text)?,
             Act::Connected(number) => self.machine.connected(0, number, self.now),
             Act::PeerSays(number, bytes) => self.machine.peer_bytes(0, number, bytes, self.now),
             Act::PeerEnds(number) => self.machine.peer_ended(0, number, self.now),
             other => return self.see(other),
         }
         self.settle()
+    }
+
+    /// The operator says this line, which is answered so.
+    fn order(&mut self, line: &[u8], text: &str) -> Result<(), Fail> {
+        match self.machine.operator(line, self.now) {
+            Operated::Answered(answer) => self.hear_answer(answer, text),
+            Operated::ReadTokens => Err("it wants the tokens".into()),
+        }
+    }
+
+    /// The operator has tokens read from a file of this text, and is answered so.
+    fn reread(&mut self, file: Option<&[u8]>, text: &str) -> Result<(), Fail> {
+        let asked = self.machine.operator(b"tokens", self.now);
+        same(asked == Operated::ReadTokens, "it wants no tokens")?;
+        let alloc = *self.said.allocator();
+        let read = match file {
+            Some(file) => Ok((
+                Tokens::read(alloc, Form::One, file).map_err(|_| "tokens")?,
+                Tokens::read(alloc, Form::One, file).map_err(|_| "tokens")?,
+            )),
+            None => Err(Undone::UnreadTokens),
+        };
+        let answer = self.machine.tokens_read(read, self.now);
+        self.hear_answer(answer, text)
+    }
+
+    /// This answers the operator so.
+    fn hear_answer(&mut self, answer: OperatorAnswer, text: &str) -> Result<(), Fail> {
+        let mut said = String::new(*self.said.allocator());
+        write!(&mut said, "{answer}").map_err(|_| "memory")?;
+        if said.as_str() == text {
+            return Ok(());
+        }
+        Err(said.into())
     }
 
     /// Looks at what a step says.
@@ -554,4 +595,78 @@ const HTTP: &[Act] = &[
 #[test]
 fn speaks_http_and_websocket(rt: HostRuntime) -> Result<(), Fail> {
     host(&rt, None, &[])?.play(HTTP)
+}
+
+/// An operator is answered; what is told goes by the level; `stop` ends the host as the end of its input does.
+const OPERATOR: &[Act] = &[
+    STARTED,
+    Act::Told(u32::MAX, false),
+    Act::Comes(true),
+    Act::Orders(b"", "no word"),
+    Act::Orders(b"stop ", "no word"),
+    Act::Orders(b"log-levels", "no word"),
+    Act::Orders(b"log-level loud", "no level: error, warn or info"),
+    Act::Orders(b"tokens", "no tokens: the host began without --tokens"),
+    Act::Says(0, b"event 0 5 0 0 3\nannounce 0 9 0 1 0\nannounce 1 8 2 0 0\n"),
+    Act::Wrote(0, b"taken 1\ntaken 2\ntaken 3\n"),
+    Act::Orders(
+        b"status",
+        "ok clients 1 2 records 3 100000 synced 0 peers 0 0 horizon 8 2 full 0 failing 0",
+    ),
+    Act::Told(3, true),
+    Act::Orders(
+        b"status",
+        "ok clients 1 2 records 3 100000 synced 0 peers 0 0 horizon 8 2 full 0 failing 1",
+    ),
+    Act::Comes(true),
+    Act::Comes(false),
+    Act::Orders(b"log-level error", "ok"),
+    Act::Passes(SECOND),
+    Act::Tells(""),
+    Act::Comes(false),
+    Act::Orders(b"log-level warn", "ok"),
+    Act::Passes(SECOND),
+    Act::Tells("clients refused: 1, there are 2 already\n"),
+    Act::Orders(b"log-level info", "ok"),
+    Act::Says(0, b"var 0\n"),
+    Act::Orders(b"stop", "ok"),
+    Act::Tells("stopped by its operator: the host ends\n"),
+    Act::Wrote(0, b"var 3 3\n"),
+    Act::Orders(b"stop", "ok"),
+    Act::Tells(""),
+    Act::Shut(0),
+    Act::Ends(0),
+    Act::Over(true),
+];
+
+#[test]
+fn obeys_its_operator(rt: HostRuntime) -> Result<(), Fail> {
+    host(&rt, None, &[])?.play(OPERATOR)
+}
+
+/// Tokens that are read again: who lost theirs is closed, others stay, and a file that can't be read changes nothing.
+const REREADS: &[Act] = &[
+    Act::Told(u32::MAX, false),
+    Act::Comes(true),
+    Act::Comes(true),
+    Act::Says(0, b"token a\n"),
+    Act::Wrote(0, b"may 0\n"),
+    Act::Says(1, b"token b\n"),
+    Act::Wrote(1, b"may 1\n"),
+    Act::Rereads(None, "no tokens: their file can't be read"),
+    Act::Rereads(Some(b"a 0\nb 1\nc read\n"), "ok closed 0"),
+    Act::Says(0, b"event 0 5 0 0 3\ntoken c\n"),
+    Act::Wrote(0, b"taken 1\nmay read\n"),
+    Act::Rereads(Some(b"b 1\nc read\n"), "ok closed 0"),
+    Act::Rereads(Some(b"b 0,1\nc read\n"), "ok closed 1"),
+    Act::Closed(1),
+    Act::Says(0, b"var 0\ntoken a\n"),
+    Act::Wrote(0, b"var 1 3\nrefused 13\n"),
+    Act::Rereads(Some(b"a *\n"), "ok closed 1"),
+    Act::Closed(0),
+];
+
+#[test]
+fn closes_who_lost_a_token(rt: HostRuntime) -> Result<(), Fail> {
+    host(&rt, Some(b"a 0\nb 1\n"), &[])?.play(REREADS)
 }
