@@ -121,12 +121,12 @@ def operator_status():
             wait_for(lambda: host.status()[0] == 2, "two clients", 60)
             for start in range(3, 100_000, 10_000):
                 count = min(10_000, 100_000 - start)
-                talks[1].send("".join(f"event 1 {(start + at) % 101} {(start + at) // 101 % 256} 1 {start + at}\n" for at in range(count)).encode())
+                talks[1].send("".join(f"event 1 {(start + at) % 101} 0 1 {start + at}\n" for at in range(count)).encode())
                 for _ in range(count):
                     talks[1].line()
             wait_for(lambda: host.status()[2:5] == [100_000] * 3, "a full log on the disk", 120)
             same(host.status()[9:], [1, 0], "a full log")
-            holds("the log is full" in wait_for(host.told, "its notes"), "that is told")
+            wait_for(lambda: "the log is full: no further record is taken\n" in host.told(), "that is told", 60)
 
 
 def operator_stops():
@@ -149,7 +149,7 @@ def operator_stops():
 def ends_so(host, file, stop):
     """Stops a host with a journal while a client sends; what was told stands in its journal."""
     talk = Talk(host.address)
-    lines = [f"event 0 {at % 101} {at // 101} 0 {at}" for at in range(5_000)]
+    lines = [f"event 0 {at % 101} 0 0 {at}" for at in range(5_000)]
     talk.send("".join(f"{line}\n" for line in lines).encode())
     same(talk.line(), "taken 1", "the first reply")
     stop()
