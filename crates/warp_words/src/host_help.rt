@@ -42,12 +42,12 @@ host runs: its records come in here. A host that runs another program is refused
 With --operator standard input has words of its operator, one a line. Each has one line back on
 standard output, `ok ..` or `no WHY`:
 
-  stop                what was read is answered, the journal synced, and the host ends: ok
-  status              ok clients N MOST records N MOST synced N peers FOUND ALL
-                      horizon TIME MICROSTEP full 0 failing 0
-  tokens              the file of --tokens is read again, and who lost a token is closed: ok closed N
-  log-level L         standard error tells faults alone (error), and who was refused or lost
-                      (warn), or all, as at first (info): ok
+  stop          what was read is answered, the journal synced, and the host ends: ok
+  status        how it is: ok clients N MOST records N MOST synced N peers FOUND ALL
+                horizon TIME MICROSTEP full 0 failing 0
+  tokens        the file of --tokens is read again, and who lost a token is closed: ok closed N
+  log-level L   what standard error tells: faults (error), also who was refused or lost (warn),
+                or all, as at first (info): ok
 
 The end of standard input ends a host with --until-input-ends alone. tools/warpd-service holds
 it open, and makes words of signals.";
