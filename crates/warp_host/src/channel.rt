@@ -75,8 +75,10 @@ impl Channel {
         let output = &mut SourceFd(&STANDARD_OUTPUT);
         let registry = poll.registry();
         let has_events = is_open && registry.register(input, INPUT, Interest::READABLE).is_ok();
-        let has_output_events =
-            is_operated && registry.register(output, OUTPUT, Interest::WRITABLE).is_ok();
+        let has_output_events = is_operated
+            && registry
+                .register(output, OUTPUT, Interest::WRITABLE)
+                .is_ok();
         Channel {
             is_operated,
             ends_host,
@@ -125,9 +127,7 @@ impl Channel {
         }
         self.is_open = false;
         if self.has_events {
-            let _ = poll
-                .registry()
-                .deregister(&mut SourceFd(&STANDARD_INPUT));
+            let _ = poll.registry().deregister(&mut SourceFd(&STANDARD_INPUT));
         }
         Looked::End
     }
@@ -194,7 +194,9 @@ impl Channel {
             let _ = registry.deregister(output);
             self.has_output_events = false;
         } else {
-            self.may_write = registry.reregister(output, OUTPUT, Interest::WRITABLE).is_err();
+            self.may_write = registry
+                .reregister(output, OUTPUT, Interest::WRITABLE)
+                .is_err();
         }
     }
 }

@@ -248,7 +248,13 @@ fn make_entrance<X: Eprint>(
 /// Standard input and output, as the options want them.
 fn make_channel(alloc: Global, poll: &Poll, options: &mut Options) -> Channel {
     let tokens_at = options.tokens_at.take();
-    Channel::new(alloc, poll, options.until_input_ends, options.operator, tokens_at)
+    Channel::new(
+        alloc,
+        poll,
+        options.until_input_ends,
+        options.operator,
+        tokens_at,
+    )
 }
 
 /// The worker with its machine.
