@@ -23,7 +23,9 @@ use std::sync::Wait;
 use std::thread;
 use std::time::{Clock, Duration};
 use warp_line::Timeline;
-use warp_machine::{Action, ClientId, JournalSeen, LastDone, Machine, Note, NoteText, PeerAction};
+use warp_machine::{
+    Action, ClientId, JournalSeen, LastDone, Machine, Note, NoteText, PeerAction,
+};
 
 pub(crate) const LISTENER: Token = Token(usize::MAX);
 
@@ -156,9 +158,7 @@ impl<T: Timeline> Worker<T> {
             INPUT => self.may_read_input = true,
             OUTPUT => self.channel.note_output(),
             Token(key) if key >= FIRST_PEER => self.links.note(key - FIRST_PEER, event),
-            Token(key) => self
-                .seats
-                .note(u32::try_from(key).unwrap_or(u32::MAX), event),
+            Token(key) => self.seats.note(u32::try_from(key).unwrap_or(u32::MAX), event),
         }
     }
 
