@@ -12,7 +12,7 @@ use warp_line::Timeline;
 use warp_machine::{Operated, OperatorAnswer, Undone};
 
 /// Why a line is not done that wants the tokens.
-fn undone(fault: TokenFault) -> Undone {
+fn why_no_tokens(fault: TokenFault) -> Undone {
     match fault {
         TokenFault::Unread => Undone::UnreadTokens,
         TokenFault::Shown => Undone::ShownTokens,
@@ -71,7 +71,7 @@ impl<T: Timeline> Worker<T> {
         };
         match at.read(rt, self.alloc) {
             Ok(read) => Ok(read),
-            Err(fault) => Err(undone(fault)),
+            Err(fault) => Err(why_no_tokens(fault)),
         }
     }
 

@@ -23,9 +23,7 @@ mod watchers;
 
 pub use action::{Action, Ending};
 pub use machine::Machine;
-pub use operating::{
-    Level, Operated, OperatorAnswer, OperatorWord, Status, Undone, read_operator,
-};
+pub use operating::{Level, Operated, OperatorAnswer, OperatorWord, Status, Undone, read_operator};
 pub use start::{JournalSeen, LastDone, Options, PeerAt, Start};
 pub use warp_clients::ClientId;
 pub use warp_service::{Named, Note, NoteText, PeerAction};

@@ -156,7 +156,7 @@ fn level_of(note: &Note) -> Level
 }
 
 /// Why a line that is no word is none.
-fn undone(line: &[u8]) -> Undone {
+fn why_no_word(line: &[u8]) -> Undone {
     if is_keyword(line, b"log-level") || line.starts_with(b"log-level ") {
         Undone::NoLevel
     } else {
@@ -182,7 +182,7 @@ pub fn read_operator(line: &[u8]) -> Result<OperatorWord, Undone>
     } else if is_keyword(line, b"log-level info") {
         Ok(OperatorWord::LogLevel(Level::Info))
     } else {
-        Err(undone(line))
+        Err(why_no_word(line))
     }
 }
 
@@ -202,7 +202,9 @@ impl<T: Timeline> Machine<T> {
         self.now = now;
         match read_operator(line) {
             Ok(OperatorWord::Stop) => self.end_in_order(Note::Stopped, now),
-            Ok(OperatorWord::Status) => return Operated::Answered(OperatorAnswer::Is(self.status())),
+            Ok(OperatorWord::Status) => return Operated::Answered(OperatorAnswer::Is(
+                self.status(),
+            )),
             Ok(OperatorWord::Tokens) if self.pages.has_tokens() => return Operated::ReadTokens,
             Ok(OperatorWord::Tokens) => {
                 return Operated::Answered(OperatorAnswer::No(Undone::NoTokens));
