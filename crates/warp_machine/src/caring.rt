@@ -212,7 +212,10 @@ impl<T: Timeline> Machine<T> {
             horizon_microstep: self.counted.horizon.1,
             peers: self.peers.len() as u64,
             peers_connected: self.peers_found(),
-            clients_refused: self.counted.turned_away.saturating_add(journal.undescribed),
+            clients_refused: self
+                .counted
+                .turned_away
+                .saturating_add(journal.undescribed),
             unauthorized: self.pages.unauthorized(),
             forbidden: self.pages.forbidden(),
             journal_records: u64::from(journal.records),

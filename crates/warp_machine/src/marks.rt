@@ -19,10 +19,7 @@ pub(crate) enum News {
     /// The newest value, of this number.
     Value(u64),
     /// So many lines of steps, before which so many were left out.
-    Steps {
-        left_out: u64,
-        count: u64,
-    },
+    Steps { left_out: u64, count: u64 },
 }
 
 /// What a watcher gets of it, in this order.
