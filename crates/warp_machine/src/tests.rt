@@ -117,7 +117,9 @@ fn labels(rt: &HostRuntime) -> Result<Labels, Fail> {
 /// Tokens of this text.
 fn tokens(rt: &HostRuntime, text: Option<&[u8]>) -> Result<Option<Tokens>, Fail> {
     match text {
-        Some(text) => Ok(Some(Tokens::read(rt.alloc(), Form::One, text).map_err(|_| "tokens")?)),
+        Some(text) => Ok(Some(
+            Tokens::read(rt.alloc(), Form::One, text).map_err(|_| "tokens")?,
+        )),
         None => Ok(None),
     }
 }
@@ -402,9 +404,8 @@ impl Tries {
     }
 }
 
-const STARTED: Act = Act::Tells(
-    "started: 2 clients at a time; warpd 1.0; program 1 x; no tokens are wanted\n",
-);
+const STARTED: Act =
+    Act::Tells("started: 2 clients at a time; warpd 1.0; program 1 x; no tokens are wanted\n");
 
 /// Lines are answered in their order; answers wait until they may be told; a third connection is turned away, which the
 /// operator is told; a connection whose lines are all answered is closed.
@@ -576,10 +577,7 @@ const HTTP: &[Act] = &[
     Act::Comes(true),
     Act::Says(0, b"GET /healthz HTTP/1.1\r\nHost: localhost:4000\r\n\r\n"),
     Act::WroteLast(0, b"\r\n\r\nok\n"),
-    Act::Says(
-        0,
-        b"GET /ws HTTP/1.1\r\nHost: localhost:4000\r\nConnection: upgrade\r\nUpgrade: websocket\r\nSec-WebSocket-Version: 13\r\nSec-WebSocket-Key: dGhlIHNhbXBsZSBub25jZQ==\r\n\r\n\x81\x85\0\0\0\0var 0",
-    ),
+    Act::Says(0, b"GET /ws HTTP/1.1\r\nHost: localhost:4000\r\nConnection: upgrade\r\nUpgrade: websocket\r\nSec-WebSocket-Version: 13\r\nSec-WebSocket-Key: dGhlIHNhbXBsZSBub25jZQ==\r\n\r\n\x81\x85\0\0\0\0var 0"),
     Act::WroteLast(0, b"\r\n\r\n\x81\x07var 0 0"),
     Act::Passes(30 * SECOND),
     Act::Wrote(0, b"\x89\0"),
@@ -609,10 +607,7 @@ const OPERATOR: &[Act] = &[
     Act::Orders(b"log-levels", "no word"),
     Act::Orders(b"log-level loud", "no level: error, warn or info"),
     Act::Orders(b"tokens", "no tokens: the host began without --tokens"),
-    Act::Says(
-        0,
-        b"event 0 5 0 0 3\nannounce 0 9 0 1 0\nannounce 1 8 2 0 0\n",
-    ),
+    Act::Says(0, b"event 0 5 0 0 3\nannounce 0 9 0 1 0\nannounce 1 8 2 0 0\n"),
     Act::Wrote(0, b"taken 1\ntaken 2\ntaken 3\n"),
     Act::Orders(
         b"status",
