@@ -488,16 +488,16 @@ def watched(place, check=(), host=HOST):
 
 
 def following():
-    had = [*watched(1), (f"peer * log 1 {FIVE}", FIVE), ("hub taken 1",), (f"peer * log 2 {SIX}", SIX)]
-    yield followed("a host, that is lost and found, and refused records", *had, ("lose", "over"), HELLO, (HOST, "log 2"), ("hub taken 2",),
+    had = [*watched(1), (f"peer * log 1 {FIVE}", FIVE), ("answer taken 1",), (f"peer * log 2 {SIX}", SIX)]
+    yield followed("a host, that is lost and found, and refused records", *had, ("lose", "over"), HELLO, (HOST, "log 2"), ("answer taken 2",),
         (f"peer log 2 {SIX}", "watch log 2"), ("peer watching 1", "found at 2, true"), (f"peer * log 2 {SIX}", SIX),
-        (f"peer * log 3 {NONE}", NONE), ("hub known 2",), ("hub refused 3", "refused 3 at 3"), (f"peer * log 4 {FIVE}", FIVE),
-        ("hub refused 3",), (f"peer * log 5 {SIX}", SIX), ("hub refused 2", "refused 2 at 5"), (f"peer * log 7 {NONE}", "strange", "over"),
+        (f"peer * log 3 {NONE}", NONE), ("answer known 2",), ("answer refused 3", "refused 3 at 3"), (f"peer * log 4 {FIVE}", FIVE),
+        ("answer refused 3",), (f"peer * log 5 {SIX}", SIX), ("answer refused 2", "refused 2 at 5"), (f"peer * log 7 {NONE}", "strange", "over"),
         (f"peer * log 6 {NONE}", "strange", "over"))
     for name, there in (("a shorter one", "none 1"), ("none", "none 0"), ("another one", f"log 2 {FIVE}")):
-        yield followed(f"the log of a host became {name}", *had, ("hub taken 2",), HELLO, *watched(1, ("log 2", f"peer {there}")),
+        yield followed(f"the log of a host became {name}", *had, ("answer taken 2",), HELLO, *watched(1, ("log 2", f"peer {there}")),
                        (f"peer * log 1 {SIX}", SIX))
-    yield followed("a host whose records find no memory", *had, ("hub refused 8", "no memory", "over"), HELLO,
+    yield followed("a host whose records find no memory", *had, ("answer refused 8", "no memory", "over"), HELLO,
                    *watched(2, ("log 2", f"peer log 9 {SIX}")))
     yield followed("pieces of lines", HELLO, (HOST, "watch log 1"), ("part watch",), ("peer ing 5", "found at 1, true"), ("part * lo",),
                    ("part g 1 ",), (f"peer {FIVE}", FIVE), (f"part {'x' * 100}",), (f"peer {'x' * 28}", "strange", "over"), HELLO,
@@ -506,16 +506,11 @@ def following():
     yield followed("a serve", *serve, (f"peer log 3 {FIVE}", "log 2", "log 3", FIVE), (f"peer log 3 {SIX}", SIX),
         (f"peer log 4 {NONE}", "log 4", NONE), (f"peer log 4 {SIX}", "log 5", SIX), ("peer none 4", "level"), ("again", "log 5"),
         (f"peer log 5 {FIVE}", "log 6", FIVE), ("peer none 5", "level"), (f"peer log 6 {FIVE}", "strange", "over"), ("again", "over"),
-        *((f"hub taken {n}", "over") for n in range(1, 7)), HELLO, (SERVE, "log 5"), (f"peer log 5 {FIVE}", "found at 6, false", "log 6"))
+        *((f"answer taken {n}", "over") for n in range(1, 7)), HELLO, (SERVE, "log 5"), (f"peer log 5 {FIVE}", "found at 6, false", "log 6"))
     yield followed("many places of a serve", *serve, (f"peer log 200 {FIVE}", *(f"log {n}" for n in range(2, 66)), FIVE),
                    *((f"peer log 200 {SIX}", f"log {n}", SIX) for n in range(66, 201)), *((f"peer log 200 {SIX}", SIX) for _ in range(63)),
                    (f"peer log 200 {SIX}", "log 201", SIX), ("peer none 200", "level"))
-    told = [("doubt", "program"), ("doubt",), (f"peer * log 1 {FIVE}", FIVE), ("doubt",), (HOST,)]
-    yield followed("a host that is asked whether it is there", ("doubt",), *watched(1), *told, (f"peer * log 2 {SIX}", SIX), ("doubt", "program"), (HOST,),
-                   (HOST, "strange", "over"), ("doubt", "over"), HELLO, ("doubt",), *watched(1, ("log 2", f"peer log 2 {SIX}")), ("doubt", "program"),
-                   ("peer program 1 there", "strange", "over"), HELLO, *watched(1, ("log 2", f"peer log 2 {SIX}")), ("doubt", "program"), ("lose", "over"),
-                   HELLO, *watched(1, ("log 2", f"peer log 2 {SIX}")), (HOST, "strange", "over"))
-    yield followed("a serve is not asked so", *serve, ("doubt",), ("peer none 0", "level"), ("doubt", "level"), ("again", "log 1"))
+    yield followed("a host that tells its program unasked", *watched(1), (HOST, "strange", "over"))
     yield followed("a serve that is busy", *serve, ("peer refused 10", "strange", "over"), HELLO, *serve, ("peer none 1", "strange", "over"))
     for other in ("program 1 there", "program 2 here", "program 1 here and there"):
         yield followed(f"no token for a host of {other}", (f"peer {other}", "another program", "over"), ("lose", "over"), program=BEHIND)
@@ -544,7 +539,7 @@ def following_versions():
                  f"announce 0 0 0 0 {records + 1}"]
         again = [(HELLO, *watched(2, ("log 1", f"peer log 1 {line}"), f"peer {program}"), (f"peer * log 2 {text}", "strange", "over"))
                  for text in wrong]
-        yield followed(f"records of a host of version {version}", *found, (f"peer * log 1 {line}", line), ("hub taken 1",), ("lose", "over"),
+        yield followed(f"records of a host of version {version}", *found, (f"peer * log 1 {line}", line), ("answer taken 1",), ("lose", "over"),
                        *(call for some in again for call in some), program=program)
         asked = [f"log {number}" for number in range(2, 66)]
         yield followed(f"a long log of a serve of version {version}", *serve, (f"peer log {records} {line}", *asked, line),

@@ -256,11 +256,12 @@ def operator_tokens():
             said = Web(host.address, "/ws?token=zero")
             same(said.ask("token one"), ["may 1"], "a token over WebSocket")
             same(talks["nobody"].ask("token two"), "refused 13", "a wrong token")
-            for text, mode, why in (("all 0,9\n", 0o600, "line 1 of their file is refused"), ("one 1\nall\n", 0o600, "line 2 of their file is refused"),
-                                    ("", 0o600, "line 1 of their file is refused"), ("all *\n", 0o640, "others may read or write their file")):
+            for text, mode, why in (("all 0,9\n", 0o600, "line 1: no such origin 9"), ("one 1\nall\n", 0o600, "line 2: there is nothing behind the token"),
+                                    ("one 1\none 0\n", 0o600, "line 2: its token stands in a line in front of it too"),
+                                    ("", 0o600, "it has no token"), ("all *\n", 0o640, "others may read or write their file")):
                 write(text, mode)
                 same(host.ask("tokens"), f"no tokens: {why}", "a file that can't be taken")
-            holds(f"{file}: line 1: no such origin 9\n" in host.told(), "what is wrong is told")
+            holds(f"{file}: others may read or write it (mode 640; chmod 600 {file})\n" in host.told(), "what is wrong is told")
             file.unlink()
             same(host.ask("tokens"), "no tokens: their file can't be read", "no file")
             same(talks["zero"].ask("event 0 5 0 0 3"), "taken 1", "nothing has changed")

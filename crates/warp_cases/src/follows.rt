@@ -1,11 +1,10 @@
 //! Following the log of a peer. The first line, `program V X`, tells the own program; behind it stands `token T` or
 //! `first T` where the peer wants a token, behind its program or first. Each further line is a call, and what it said to
-//! the peer and handed to the hub is told behind it:
+//! the peer and handed on is told behind it:
 //!
-//! - `connect` begins a connection, `lose` ends it, `again` asks a `serve` again after a pause, `doubt` asks a host whether
-//!   it is there;
+//! - `connect` begins a connection, `lose` ends it, `again` asks a `serve` again after a pause;
 //! - `peer TEXT` is a line of the peer, `part TEXT` bytes of it without a line feed;
-//! - `hub TEXT` is an answer of the hub to a line that it was handed.
+//! - `answer TEXT` is the answer to a line that was handed on.
 use crate::lines::{form_of, word_of};
 use crate::mark::{begin, end};
 use crate::transcript::{NO_MEMORY, Transcript};
@@ -82,13 +81,12 @@ fn make_call(
         "connect" => say_done(out, follower.connect(&mut sides.said)),
         "lose" => follower.lose(),
         "again" => say_done(out, follower.ask_again(&mut sides.said)),
-        "doubt" => say_done(out, follower.doubt(&mut sides.said)),
         "peer" => {
             take(out, follower, sides, rest.as_bytes());
             take(out, follower, sides, b"\n");
         }
         "part" => take(out, follower, sides, rest.as_bytes()),
-        "hub" => {
+        "answer" => {
             answer(out, follower, rest.as_bytes());
             answer(out, follower, b"\n");
         }
@@ -116,7 +114,7 @@ fn take(out: &mut Transcript, follower: &mut Follower, sides: &mut Sides, bytes:
     say_event(out, event);
 }
 
-/// Takes bytes of the hub's answers, likewise.
+/// Takes bytes of answers, likewise.
 fn answer(out: &mut Transcript, follower: &mut Follower, bytes: &[u8]) {
     let (_count, event) = follower.take_answers(bytes);
     say_event(out, event);

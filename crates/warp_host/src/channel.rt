@@ -1,13 +1,13 @@
 //! Standard input and output of a host: the end of its input, and with an operator the lines of it and their answers. It
 //! decides nothing: it reads and writes as far as the system goes without a wait, and cuts bytes into lines.
 
-use crate::token_file::TokensAt;
+use crate::options::ChannelUse;
 use crate::worker::{INPUT, OUTPUT};
 use mio::unix::SourceFd;
 use mio::{Interest, Poll};
 use std::alloc::Global;
 use std::fmt::Write;
-use warp_machine::OperatorAnswer;
+use warp_events::OperatorAnswer;
 
 /// The descriptors of standard input and output.
 const STANDARD_INPUT: i32 = 0;
@@ -41,8 +41,8 @@ pub(crate) struct Channel {
     pub(crate) is_operated: bool,
     /// The end of standard input ends the host.
     pub(crate) ends_host: bool,
-    /// Where the operator has tokens read.
-    pub(crate) tokens_at: Option<TokensAt>,
+    /// The path of the file of tokens, which the operator may have read again.
+    pub(crate) tokens: Option<String>,
     /// Standard input is read.
     is_open: bool,
     /// Events tell when it can be read. What tells none, as a file, can always be.
@@ -63,13 +63,12 @@ pub(crate) struct Channel {
 
 impl Channel {
     /// Standard input is watched from now on where its end ends the host or an operator has it, and else not looked at.
-    pub(crate) fn new(
-        alloc: Global,
-        poll: &Poll,
-        ends_host: bool,
-        is_operated: bool,
-        tokens_at: Option<TokensAt>,
-    ) -> Channel {
+    pub(crate) fn new(alloc: Global, poll: &Poll, uses: ChannelUse) -> Channel {
+        let ChannelUse {
+            until_input_ends: ends_host,
+            operator: is_operated,
+            tokens,
+        } = uses;
         let is_open = ends_host || is_operated;
         let input = &mut SourceFd(&STANDARD_INPUT);
         let output = &mut SourceFd(&STANDARD_OUTPUT);
@@ -82,7 +81,7 @@ impl Channel {
         Channel {
             is_operated,
             ends_host,
-            tokens_at,
+            tokens,
             is_open,
             has_events,
             has_output_events,

@@ -9,7 +9,7 @@ use libc::types::rlimit;
 const KEPT: u64 = 16;
 
 /// So many clients there may be of `wanted`, beside so many peers, by the limit on descriptors; one at least.
-pub(crate) fn clients_within(wanted: u32, peers: usize) -> u32
+pub fn clients_within(wanted: u32, peers: usize) -> u32
     ensures { result ≤ wanted }
 {
     let mut limit = rlimit {

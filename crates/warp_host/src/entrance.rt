@@ -60,8 +60,11 @@ impl Entrance {
         self.is_stuck = false;
     }
 
-    /// Looks for the next connection.
+    /// Looks for the next connection, where one may be waiting.
     pub(crate) fn next(&mut self, poll: &Poll) -> Arrival {
+        if !self.may_accept {
+            return Arrival::Nobody;
+        }
         match self.listener.accept() {
             Ok((stream, _)) => Arrival::Here(stream),
             Err(error) if error.kind() == ErrorKind::WouldBlock => {

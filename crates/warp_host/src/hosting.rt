@@ -1,17 +1,13 @@
 //! A host from its start to its end: the worker in this thread, and those beside it.
 
-use crate::bells::Bells;
 use crate::channel::Channel;
-use crate::descriptors::clients_within;
 use crate::entrance::Entrance;
-use crate::fresh_file::FreshFiles;
 use crate::links::Links;
 use crate::lookup::{Lookup, Seeking, make_lookup, spelled_address};
 use crate::operator;
-use crate::options::Options;
+use crate::options::{ChannelUse, Outside};
 use crate::seats::Seats;
-use crate::worker::{Ends, LISTENER, Offers, Shared, WAKER, Worker, micros_of};
-use crate::writing::{Writers, durable_of, end_writing, make_writers, start_writing};
+use crate::worker::{LISTENER, Offers, WAKER, Worker, micros_of};
 use mio::net::TcpListener;
 use mio::{Events, Interest, Poll, Waker};
 use std::alloc::{AllocError, Global};
@@ -25,13 +21,11 @@ use std::thread;
 use std::thread::{Scope, Threads};
 use std::time::Clock;
 use thiserror::Error;
-use warp_hub::Facts;
-use warp_line::Timeline;
-use warp_machine::{LastDone, Machine, Start};
-use warp_pages::{Names, Pages, Seen, Texts};
-use warp_replica::Replica;
-use warp_tag::Form;
-use warp_trace::Labels;
+use warp_disk::{
+    Bells, FreshFiles, Handing, NoThread, OpenJournal, Shared, Writers, durable_of, end_writing,
+    make_writers, start_writing, started,
+};
+use warp_events::Decides;
 
 /// So many events are taken at once.
 const EVENTS: usize = 1_024;
@@ -59,23 +53,12 @@ impl From<AllocError> for HostFault {
     }
 }
 
-/// What a host serves beside its lines.
-#[derive(Drop)]
-pub struct Served {
-    /// The bytes of the program's file.
-    pub program: Vec<u8>,
-    /// The names of its things, as `names` tells them.
-    pub names_json: Vec<u8>,
-    /// The names of the host, and the origins that it allows.
-    pub names: Names,
-}
-
 /// What a host needs of the system.
-pub trait System: Eprint + Files + FreshFiles + Threads + Wait + Clock + RandomSource + Sync {}
+pub trait System: Eprint + Files + FreshFiles + Threads + Wait + Clock + Sync {}
 
 impl<X> System for X
 where
-    X: Eprint + Files + FreshFiles + Threads + Wait + Clock + RandomSource + Sync,
+    X: Eprint + Files + FreshFiles + Threads + Wait + Clock + Sync,
 {}
 
 /// What runs beside the worker: the threads of the journal, and the one that looks names up, where they are wanted.
@@ -83,6 +66,13 @@ where
 struct Beside<'a> {
     writers: Option<Writers<'a>>,
     lookup: Option<Lookup<'a>>,
+}
+
+/// The worker's ways to those.
+#[derive(Drop)]
+struct Ends {
+    handing: Handing,
+    seeking: Seeking,
 }
 
 /// The same, or that the system gives none of it, which is told.
@@ -96,74 +86,11 @@ fn or_told<X: Eprint, T: Drop>(rt: &X, what: &str, given: io::Result<T>) -> Resu
     }
 }
 
-/// What is answered over HTTP.
-fn make_pages(
-    alloc: Global,
-    form: Form,
-    served: Served,
-    options: &mut Options,
-) -> Result<Pages, AllocError> {
-    let Served {
-        program,
-        names_json,
-        names,
-    } = served;
-    let texts = Texts {
-        names,
-        tokens: options.tokens.take(),
-        program,
-        names_json,
-    };
-    let seen = Seen::nothing(u64::from(options.clients), u64::from(form.most_records()));
-    Pages::new(alloc, texts, seen)
-}
-
-/// Whether the name of some peer has to be looked up.
-fn wants_lookup(options: &Options) -> bool {
-    for peer in &options.peers {
-        if spelled_address(peer.address.as_str()).is_none() {
-            return true;
-        }
-    }
-    false
-}
-
-/// The machine of a host that begins now.
-fn make_machine<X: Clock + RandomSource + Eprint, T: Timeline>(
-    rt: &X,
-    alloc: Global,
-    replica: Replica<T>,
-    facts: Facts,
-    labels: Labels,
-    pages: Pages,
-    options: Options,
-    now: u64,
-) -> Result<Machine<T>, HostFault> {
+/// Secret keys for a host that begins now, and this moment in microseconds. Where the system gives none, that is told.
+pub fn begin<X: Clock + RandomSource + Eprint>(rt: &X) -> Result<(RandomState, u64), HostFault> {
+    let now = or_told(rt, "time", rt.monotonic())?;
     let keys = or_told(rt, "random numbers", RandomState::new(rt))?;
-    let asked = warp_machine::Options {
-        version: options.version,
-        most_clients: clients_within(options.clients, options.peers.len()),
-        wanted: options.clients,
-    };
-    let start = Start {
-        keys,
-        replica,
-        facts,
-        labels,
-        pages,
-        peers: options.peers,
-        options: asked,
-    };
-    let machine = Machine::new(alloc, start, now)?;
-    Ok(machine)
-}
-
-/// The handle of a thread, if it could be started.
-pub(crate) fn started<H, E: Drop>(running: Result<H, E>) -> Result<H, HostFault> {
-    match running {
-        Ok(handle) => Ok(handle),
-        Err(_) => Err(HostFault::System),
-    }
+    Ok((keys, micros_of(now)))
 }
 
 /// Starts the lookup in a thread of its own, where there is one.
@@ -171,7 +98,7 @@ fn start_lookup<'s, E, X>(
     scope: &'s Scope<'s, E>,
     rt: &'s X,
     lookup: Option<Lookup<'s>>,
-) -> Result<(), HostFault>
+) -> Result<(), NoThread>
 where
     X: Net<Listener = net::TcpListener, Stream = net::TcpStream> + Wait + Clock + Sync + 's,
 {
@@ -184,12 +111,13 @@ where
 
 /// Runs the worker beside the journal's threads where there is a journal, and beside the lookup where names have to be
 /// looked up, until it ends.
-fn run_beside<'s, E, X, T: Timeline, P: LastDone<T>>(
+fn run_beside<'s, E, X, P, M: Decides<P>>(
     scope: &'s Scope<'s, E>,
     rt: &'s X,
     shared: Shared<'s>,
     beside: Beside<'s>,
-    worker: &mut Worker<T>,
+    worker: &mut Worker,
+    machine: &mut M,
 ) -> Result<(), HostFault>
 where
     X: Net<Listener = net::TcpListener, Stream = net::TcpStream> + 's,
@@ -201,28 +129,31 @@ where
         return Err(HostFault::System);
     };
     let served = match start_lookup(scope, rt, lookup) {
-        Ok(()) => serve::<X, T, P>(rt, shared, worker),
-        Err(fault) => {
+        Ok(()) => serve(rt, machine, shared, worker),
+        Err(NoThread) => {
             operator::tell_no_thread(rt, "the names of peers");
-            Err(fault)
+            Err(HostFault::System)
         }
     };
-    worker.finish(rt, shared.durable);
+    worker.finish(rt, machine, shared.durable);
     shared.bells.end();
-    end_writing(rt, shared.durable, writing)?;
+    if end_writing(rt, shared.durable, writing).is_err() {
+        return Err(HostFault::Journal);
+    }
     served
 }
 
 /// Runs the worker until it ends.
-fn serve<X: Offers, T: Timeline, P: LastDone<T>>(
+fn serve<X: Offers, P, M: Decides<P>>(
     rt: &X,
+    machine: &mut M,
     shared: Shared<'_>,
-    worker: &mut Worker<T>,
+    worker: &mut Worker,
 ) -> Result<(), HostFault> {
     let Ok(mut events) = Events::with_capacity(worker.alloc, EVENTS) else {
         return Err(HostFault::NoMemory);
     };
-    worker.run::<X, P>(rt, shared, &mut events)
+    worker.run(rt, machine, shared, &mut events)
 }
 
 /// What the worker waits by, and what wakes it.
@@ -245,37 +176,22 @@ fn make_entrance<X: Eprint>(
     Ok(Entrance::new(poll, listener))
 }
 
-/// Standard input and output, as the options want them.
-fn make_channel(alloc: Global, poll: &Poll, options: &mut Options) -> Channel {
-    let tokens_at = options.tokens_at.take();
-    Channel::new(
-        alloc,
-        poll,
-        options.until_input_ends,
-        options.operator,
-        tokens_at,
-    )
-}
-
-/// The worker with its machine.
-fn make_worker<X: Offers + RandomSource, T: Timeline>(
+/// The worker with its sockets.
+fn make_worker<X: Eprint + Clock>(
     rt: &X,
     alloc: Global,
     poll: Poll,
-    listener: TcpListener,
     ends: Ends,
-    pages: Pages,
-    replica: Replica<T>,
-    facts: Facts,
-    labels: Labels,
-    mut options: Options,
-) -> Result<Worker<T>, HostFault> {
+    listener: TcpListener,
+    uses: ChannelUse,
+    peers: u16,
+) -> Result<Worker, HostFault> {
     let now = micros_of(or_told(rt, "time", rt.monotonic())?);
     let buffer = vec![in alloc; 0u8; READ]?;
+    let links = Links::new(alloc, peers)?;
     let entrance = make_entrance(rt, &poll, listener)?;
-    let channel = make_channel(alloc, &poll, &mut options);
-    let links = Links::new(alloc, options.peers.len())?;
-    let machine = make_machine(rt, alloc, replica, facts, labels, pages, options, now)?;
+    let channel = Channel::new(alloc, &poll, uses);
+    let Ends { handing, seeking } = ends;
     Ok(Worker {
         alloc,
         poll,
@@ -283,7 +199,8 @@ fn make_worker<X: Offers + RandomSource, T: Timeline>(
         channel,
         seats: Seats::new(alloc),
         links,
-        ends,
+        handing,
+        seeking,
         buffer,
         now,
         looked: now,
@@ -291,58 +208,82 @@ fn make_worker<X: Offers + RandomSource, T: Timeline>(
         has_more: false,
         is_over: false,
         is_slow_write_told: false,
-        machine,
     })
+}
+
+/// Whether the name of some of so many peers has to be looked up.
+fn wants_lookup<P, M: Decides<P>>(machine: &M, peers: u16) -> bool {
+    for peer in 0..peers {
+        if spelled_address(machine.peer_name(peer)).is_none() {
+            return true;
+        }
+    }
+    false
 }
 
 /// The worker's ways to other threads, and what runs beside it.
 fn make_beside<'a>(
     alloc: Global,
     shared: Shared<'a>,
-    options: &mut Options,
+    journal: Option<OpenJournal>,
+    wants_lookup: bool,
 ) -> Result<(Ends, Beside<'a>), AllocError> {
-    let (handing, writers) = make_writers(alloc, options.journal.take(), shared)?;
     let (seeking, lookup) = make_lookup(alloc, shared.bells)?;
-    let lookup = if wants_lookup(options) {
-        Some(lookup)
-    } else {
-        None
-    };
+    let (handing, writers) = make_writers(alloc, journal, shared)?;
+    let lookup = if wants_lookup { Some(lookup) } else { None };
     Ok((Ends { handing, seeking }, Beside { writers, lookup }))
 }
 
-/// Hosts a replica that has taken no records but those of the journal, at this listener. This thread has the replica and
-/// the sockets, others write the journal if there is one. It returns when standard input has ended, if that is asked for,
-/// and else only for a fault. Who watches steps is told them by the names of `labels`.
+/// Hosts what this machine decides, by what it has of the system. This thread has the machine and the sockets, others write
+/// the journal if there is one. It returns when standard input has ended, if that is asked for, and else only for a fault.
 pub fn host<
     X: System + Net<Listener = net::TcpListener, Stream = net::TcpStream>,
-    T: Timeline,
-    P: LastDone<T>,
->(
-    rt: &X,
-    alloc: Global,
-    replica: Replica<T>,
-    mut facts: Facts,
-    labels: Labels,
-    served: Served,
-    listener: TcpListener,
-    mut options: Options,
-) -> Result<(), HostFault> {
-    // Whatever the facts say, lines are read in the form of the program that runs.
-    facts.form = replica.program().form();
+    P,
+    M: Decides<P>,
+>(rt: &X, alloc: Global, machine: &mut M, outside: Outside) -> Result<(), HostFault> {
     let (poll, bells) = make_bells(rt)?;
-    let durable = durable_of(&options.journal);
+    let durable = durable_of(&outside.journal);
     let shared = Shared {
         bells: &bells,
         durable: &durable,
     };
-    let pages = make_pages(alloc, facts.form, served, &mut options)?;
-    let (ends, beside) = make_beside(alloc, shared, &mut options)?;
-    let mut worker = make_worker(
-        rt, alloc, poll, listener, ends, pages, replica, facts, labels, options,
-    )?;
-    worker.act(rt);
+    host_with(rt, alloc, machine, poll, shared, outside)
+}
+
+/// Hosts, where the worker waits by this and its threads share that.
+fn host_with<
+    X: System + Net<Listener = net::TcpListener, Stream = net::TcpStream>,
+    P,
+    M: Decides<P>,
+>(
+    rt: &X,
+    alloc: Global,
+    machine: &mut M,
+    poll: Poll,
+    shared: Shared<'_>,
+    outside: Outside,
+) -> Result<(), HostFault> {
+    let Outside {
+        listener,
+        peers,
+        channel,
+        journal,
+    } = outside;
+    let (ends, beside) = make_beside(alloc, shared, journal, wants_lookup(machine, peers))?;
+    let mut worker = make_worker(rt, alloc, poll, ends, listener, channel, peers)?;
+    worker.act(rt, machine);
+    run_all(rt, machine, shared, beside, &mut worker)
+}
+
+/// Runs the worker and those beside it until it ends.
+fn run_all<X: System + Net<Listener = net::TcpListener, Stream = net::TcpStream>, P, M: Decides<P>>(
+    rt: &X,
+    machine: &mut M,
+    shared: Shared<'_>,
+    beside: Beside<'_>,
+    worker: &mut Worker,
+) -> Result<(), HostFault> {
     thread::scope(thread::scope_env(), rt, |scope| {
-        run_beside::<_, X, T, P>(scope, rt, shared, beside, &mut worker)
+        run_beside(scope, rt, shared, beside, worker, machine)
     })
 }

@@ -12,11 +12,24 @@ pub(crate) const FIRST_PEER: usize = 1 << 32;
 
 /// The connection to a peer.
 #[derive(Drop)]
-pub(crate) struct Link {
-    pub(crate) number: u64,
-    pub(crate) socket: Socket,
+struct Link {
+    number: u64,
+    socket: Socket,
     /// It is there, and not only begun.
-    pub(crate) is_made: bool,
+    is_made: bool,
+}
+
+/// How it stands with the connection to a peer, and its number.
+#[derive(Clone, Copy)]
+pub(crate) enum Standing {
+    /// There is none, or it is being made.
+    Away,
+    /// It is there since now.
+    Made(u64),
+    /// It is there.
+    Here(u64),
+    /// It could not be made, or failed.
+    Failed(u64),
 }
 
 /// Where a peer is, and the connection to it.
@@ -36,7 +49,7 @@ pub(crate) struct Links {
 
 impl Links {
     /// So many peers, to which there is no connection.
-    pub(crate) fn new(alloc: Global, count: usize) -> Result<Links, AllocError> {
+    pub(crate) fn new(alloc: Global, count: u16) -> Result<Links, AllocError> {
         let mut places = Vec::new(alloc);
         for _ in 0..count {
             places.push(Place {
@@ -104,17 +117,66 @@ impl Links {
     }
 
     /// The connection to this peer, if there is one.
-    pub(crate) fn at(&mut self, peer: u16) -> Option<&mut Link> {
+    fn at(&mut self, peer: u16) -> Option<&mut Link> {
         self.places.get_mut(peer as usize)?.link.as_mut()
     }
 
     /// The connection of this number to this peer, if that is there.
-    pub(crate) fn of(&mut self, peer: u16, number: u64) -> Option<&mut Link> {
+    fn of(&mut self, peer: u16, number: u64) -> Option<&mut Link> {
         let link = self.at(peer)?;
         if link.number == number {
             Some(link)
         } else {
             None
+        }
+    }
+
+    /// How it stands with the connection to this peer.
+    pub(crate) fn look(&mut self, peer: u16) -> Standing {
+        let Some(link) = self.at(peer) else {
+            return Standing::Away;
+        };
+        match link.socket.is_made() {
+            Ok(false) => Standing::Away,
+            Ok(true) if link.is_made => Standing::Here(link.number),
+            Ok(true) => {
+                link.is_made = true;
+                Standing::Made(link.number)
+            }
+            Err(Gone) => Standing::Failed(link.number),
+        }
+    }
+
+    /// Whether there may be bytes to read of the connection of this number to this peer.
+    pub(crate) fn may_read(&mut self, peer: u16, number: u64) -> bool {
+        match self.of(peer, number) {
+            Some(link) => link.socket.may_read(),
+            None => false,
+        }
+    }
+
+    /// Reads once of the connection of this number to this peer: how many bytes. `Err` where it has ended.
+    pub(crate) fn read(
+        &mut self,
+        peer: u16,
+        number: u64,
+        buffer: &mut [u8],
+    ) -> Result<usize, Gone> {
+        let Some(link) = self.of(peer, number) else {
+            return Err(Gone);
+        };
+        let count = link.socket.read(buffer)?;
+        if link.socket.is_at_end() {
+            return Err(Gone);
+        }
+        Ok(count)
+    }
+
+    /// Writes once to the connection of this number to this peer: how many bytes the system took.
+    pub(crate) fn write(&mut self, peer: u16, number: u64, bytes: &[u8]) -> Result<usize, Gone> {
+        match self.of(peer, number) {
+            Some(link) => link.socket.write(bytes),
+            None => Ok(0),
         }
     }
 

@@ -1,6 +1,5 @@
 //! The addresses of peers, by their names. Asking the system for one may take long, so a thread of its own does it.
 
-use crate::bells::Bells;
 use crate::options::MOST_PEERS;
 use rtrb::{Consumer, Producer, RingBuffer};
 use std::alloc::{AllocError, Global};
@@ -8,6 +7,7 @@ use std::net::{IpAddr, Ipv4Addr, Net, SocketAddr, ToSocketAddrs};
 use std::sync::Wait;
 use std::thread;
 use std::time::{Clock, Duration};
+use warp_disk::Bells;
 
 /// How long the thread sleeps where nothing is sought, in milliseconds.
 const PAUSE: u64 = 100;

@@ -47,8 +47,3 @@ pub(crate) fn tell_owner<X: Eprint>(rt: &X, path: &str, owner: u32) {
         "{path}: user {owner}, whose it is, may read or write it (chown it to the host's user)"
     );
 }
-
-/// Tells that this line of the file at this path, from 1, names an origin that the program does not have.
-pub(crate) fn tell_no_origin<X: Eprint>(rt: &X, path: &str, line: u64, origin: u32) {
-    let _ = eprintln!(rt; "{path}: line {line}: no such origin {origin}");
-}

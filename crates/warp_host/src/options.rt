@@ -1,13 +1,11 @@
-//! What a host is asked to do.
+//! What a host has of the system, and what is asked of it there.
 
 ghost use Rattle.std.specs.Prelude.{◌↔◌, IsTrue};
 ghost use Rattle.warp_host.specs.Listening.{MayListen};
 
-use crate::journal_file::OpenJournal;
-use crate::token_file::TokensAt;
+use mio::net::TcpListener;
 use std::net::IpAddr;
-use warp_hub::Tokens;
-use warp_machine::PeerAt;
+use warp_disk::OpenJournal;
 
 /// The most clients at a time, where no number is given.
 pub const DEFAULT_CLIENTS: u32 = 1_024;
@@ -18,24 +16,27 @@ pub const MOST_CLIENTS: u32 = 15_000;
 /// The most peers.
 pub const MOST_PEERS: usize = 64;
 
-/// What a host is asked to do, beside its program and the texts on it.
+/// What standard input and output of a host are for.
 #[derive(Drop)]
-pub struct Options {
-    /// The version of the program that hosts, which an operator is told.
-    pub version: &'static str,
-    /// How many clients there may be at a time, 1 to 15,000.
-    pub clients: u32,
-    /// Who may use HTTP; without tokens everybody may.
-    pub tokens: Option<Tokens>,
-    /// The peers, at most 64.
-    pub peers: Vec<PeerAt>,
+pub struct ChannelUse {
     /// Whether the host ends with its standard input.
     pub until_input_ends: bool,
-    /// Whether standard input has lines of its operator.
+    /// Whether standard input has lines of its operator, which are answered on standard output.
     pub operator: bool,
-    /// Where the tokens of clients are read again, where there are some.
-    pub tokens_at: Option<TokensAt>,
-    /// The journal, whose records the replica has taken.
+    /// The path of the file of tokens of clients, which an operator may have read again, if there is one.
+    pub tokens: Option<String>,
+}
+
+/// What a host has of the system, and what is asked of it there.
+#[derive(Drop)]
+pub struct Outside {
+    /// Where connections come in.
+    pub listener: TcpListener,
+    /// How many peers its machine has, at most 64.
+    pub peers: u16,
+    /// What its standard input and output are for.
+    pub channel: ChannelUse,
+    /// The journal, whose records the machine's log has.
     pub journal: Option<OpenJournal>,
 }
 

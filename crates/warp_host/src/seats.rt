@@ -1,19 +1,19 @@
 //! The sockets of clients, by the clients' keys, and those that may be read or written.
 
-use crate::socket::Socket;
+use crate::socket::{Gone, Socket};
 use mio::event::Event;
 use mio::net::TcpStream;
 use std::alloc::{AllocError, Global};
 use std::collections::VecDeque;
-use warp_machine::ClientId;
+use warp_events::ClientId;
 
 /// A client's socket.
 #[derive(Drop)]
-pub(crate) struct Seat {
-    pub(crate) who: ClientId,
-    pub(crate) socket: Socket,
+struct Seat {
+    who: ClientId,
+    socket: Socket,
     /// There are bytes to be written, which the system did not take yet.
-    pub(crate) is_writing: bool,
+    is_writing: bool,
     /// It stands among those that may be read or written.
     is_queued: bool,
 }
@@ -71,9 +71,57 @@ impl Seats {
     }
 
     /// The seat of this client, if it is there.
-    pub(crate) fn of(&mut self, who: ClientId) -> Option<&mut Seat> {
+    fn of(&mut self, who: ClientId) -> Option<&mut Seat> {
         let seat = self.at(who.key)?;
         if seat.who == who { Some(seat) } else { None }
+    }
+
+    /// Whether there are bytes to be written to this client, which the system did not take yet.
+    pub(crate) fn is_writing(&mut self, who: ClientId) -> bool {
+        match self.of(who) {
+            Some(seat) => seat.is_writing,
+            None => false,
+        }
+    }
+
+    /// Whether there may be bytes of this client to read, or their end.
+    pub(crate) fn may_read(&mut self, who: ClientId) -> bool {
+        match self.of(who) {
+            Some(seat) => seat.socket.may_read(),
+            None => false,
+        }
+    }
+
+    /// Whether the end of what comes of this client was read.
+    pub(crate) fn is_at_end(&mut self, who: ClientId) -> bool {
+        match self.of(who) {
+            Some(seat) => seat.socket.is_at_end(),
+            None => false,
+        }
+    }
+
+    /// Reads once of this client: how many bytes.
+    pub(crate) fn read(&mut self, who: ClientId, buffer: &mut [u8]) -> Result<usize, Gone> {
+        match self.of(who) {
+            Some(seat) => seat.socket.read(buffer),
+            None => Ok(0),
+        }
+    }
+
+    /// Writes once to this client of what is to be written: how many bytes the system took.
+    pub(crate) fn write(&mut self, who: ClientId, bytes: &[u8]) -> Result<usize, Gone> {
+        let Some(seat) = self.of(who) else {
+            return Ok(0);
+        };
+        seat.is_writing = !bytes.is_empty();
+        seat.socket.write(bytes)
+    }
+
+    /// Says to this client that nothing more is written.
+    pub(crate) fn end_writing(&mut self, who: ClientId) {
+        if let Some(seat) = self.of(who) {
+            seat.socket.end_writing();
+        }
     }
 
     /// Notes an event at the socket of this key.
@@ -97,6 +145,17 @@ impl Seats {
         seat.is_queued = true;
         // There is room: it was taken with the seat.
         let _ = self.queue.push_back(who.key);
+    }
+
+    /// The client is served soon, if the system takes more of what is to be written to it. One that takes no more is not
+    /// served for what it said, which is not wanted yet.
+    pub(crate) fn enqueue_writing(&mut self, who: ClientId) {
+        let Some(seat) = self.of(who) else {
+            return;
+        };
+        if seat.is_writing && seat.socket.may_write() {
+            self.enqueue(who);
+        }
     }
 
     /// How many are to be served.

@@ -1,4 +1,2 @@
-mod GateRunning
-mod Pushed
 mod WordForms
 pub mod OneLog

@@ -1,8 +1,9 @@
 //! Following the log of a peer, for as long as a host runs.
 //!
-//! A follower has no socket and no clock: bytes of the peer come in; bytes to the peer go out, and lines for the hub,
-//! each a record that the peer told. It keeps no more of the peer's bytes than one unfinished line.
-ghost use Rattle.std.specs.Prelude.{◌≡◌, ◌≢◌, ◌↔◌, ◌⊎◌, ℕ, List, ◌+◌, ◌-◌, ◌<◌, ◌≤◌, [], ◌∷◌, ◌++◌, false, IfNone, IfSome, IsTrue, OnErr, codes};
+//! A follower has no socket and no clock: bytes of the peer come in; bytes to the peer go out, and lines to be handed
+//! on, each a record that the peer told. Who has the follower has them answered, and brings it the answers. It keeps no
+//! more of the peer's bytes than one unfinished line.
+ghost use Rattle.std.specs.Prelude.{◌≡◌, ◌↔◌, ℕ, List, ◌+◌, ◌-◌, ◌<◌, ◌≤◌, [], ◌∷◌, ◌++◌, false, IfNone, IfSome, IsTrue, OnErr};
 ghost use Rattle.std.specs.Prelude.{OnOk, length, min};
 ghost use Rattle.std.specs.List.{before_first};
 ghost use Rattle.warp_tag.specs.Limits.{most_records, widest};
@@ -69,8 +70,6 @@ pub enum Phase {
     Watch,
     /// Pushes of a host.
     Pushed,
-    /// Pushes of a host, and the answer to the question whether it is there.
-    Doubted,
     /// Answers of a `serve` to `log P`.
     Asked,
     /// Nothing: all that a `serve` has is here.
@@ -99,7 +98,7 @@ pub struct Follower {
     phase: Phase,
     /// The place of the record that comes next, from 1.
     next: u32,
-    /// How many records were handed to the hub and not answered, and how many of an earlier connection.
+    /// How many records were handed on and not answered, and how many of an earlier connection.
     missing: u32,
     stale: u64,
     /// The record that was had last, and its place.
@@ -179,8 +178,8 @@ impl Follower {
         self.phase == Phase::Level
     }
 
-    /// A connection begins: says what is to be said first. What was handed to the hub and not answered is asked for
-    /// again. `Err` leaves none.
+    /// A connection begins: says what is to be said first. What was handed on and not answered is asked for again.
+    /// `Err` leaves none.
     pub fn connect(&mut self, said: &mut Vec<u8>) -> Result<(), OutOfMemory>
         ensures begins { self.new ≡ record (unconnected self.old) { phase = self.new.phase } }
         ensures waits { follows self.new.phase ≡ false }
@@ -234,26 +233,8 @@ impl Follower {
         Ok(())
     }
 
-    /// Asks a host whose pushes are due whether it is there: it answers with its program. One that was asked and did not
-    /// answer yet is not asked again, and a `serve` not at all. At an `Err` it was not asked, and a part of the line may
-    /// stand in what is to be said: the connection is to be ended.
-    pub fn doubt(&mut self, said: &mut Vec<u8>) -> Result<(), OutOfMemory>
-        ensures asks { self.old.phase ≡ Phase.Pushed → OnOk result ((self.new ≡ record self.old { phase = Phase.Doubted })
-            × (said.new.items ≡ said.old.items ++ codes "program\n")) }
-        ensures other { self.old.phase ≢ Phase.Pushed → (result ≡ Ok tt) × (self.new ≡ self.old)
-            × (said.new.items ≡ said.old.items) }
-        ensures err { OnErr result (self.new ≡ self.old) }
-    {
-        if self.phase != Phase::Pushed {
-            return Ok(());
-        }
-        said.extend_from_slice(b"program\n")?;
-        self.phase = Phase::Doubted;
-        Ok(())
-    }
-
     /// Takes bytes of the peer up to and with the first line feed, or all where there is none; how many, and what is to
-    /// be told. Where the line told a record that was due, that is handed to the hub, as a line.
+    /// be told. Where the line told a record that was due, that is handed on, as a line.
     pub fn take(
         &mut self,
         bytes: &[u8],
@@ -293,8 +274,8 @@ impl Follower {
         }
     }
 
-    /// Takes bytes of the hub's answers to the lines that it was handed, up to and with the first line feed, or all
-    /// where there is none; how many, and what is to be told.
+    /// Takes bytes of the answers to the lines that were handed on, up to and with the first line feed, or all where
+    /// there is none; how many, and what is to be told.
     pub fn take_answers(&mut self, bytes: &[u8]) -> (usize, Option<PeerEvent>)
         ensures taken { result.0 ≡ min (first_end bytes.now + 1) (length bytes.now) }
         ensures counts { Counts self.old self.new }
@@ -310,7 +291,7 @@ impl Follower {
         (count, event)
     }
 
-    /// What the hub answered to a record; `None` is no reply that reads.
+    /// What was answered to a record; `None` is no reply that reads.
     fn answered(&mut self, reply: Option<Reply>) -> Option<PeerEvent>
         ensures counts { Counts self.old self.new }
         ensures others { self.new ≡ record self.old { phase = self.new.phase; next = self.new.next; missing = self.new.missing } }
@@ -352,7 +333,7 @@ impl Follower {
         Some(PeerEvent::Refused { place, refusal })
     }
 
-    /// Goes back to the first record that was handed to the hub and not answered well. So many answers are due yet.
+    /// Goes back to the first record that was handed on and not answered well. So many answers are due yet.
     fn give_up(&mut self, due: u32)
         ensures { self.new ≡ record self.old { next = self.old.next - self.old.missing; missing = 0 } }
     {
@@ -402,7 +383,6 @@ impl Follower {
             Phase::Check(is_host) => self.on_check(line, is_host, said),
             Phase::Watch => self.on_watching(line),
             Phase::Pushed => self.on_push(line, handed),
-            Phase::Doubted => self.on_push_in_doubt(line, handed),
             Phase::Asked => self.on_reply(line, said, handed),
         }
     }
@@ -543,23 +523,9 @@ impl Follower {
         })
     }
 
-    /// Hears of a host that was asked whether it is there: its answer, or a push.
-    fn on_push_in_doubt(&mut self, line: &[u8], handed: &mut Vec<u8>) -> Option<PeerEvent>
-        requires { self.old.phase ≡ Phase.Doubted }
-        ensures hears { Hears self.old line.now handed.old.items result self.new handed.new.items }
-        ensures others { self.new ≡ record self.old { phase = self.new.phase; next = self.new.next; missing = self.new.missing } }
-    {
-        let is_there = is_keyword(line, &self.program);
-        if is_there {
-            self.phase = Phase::Pushed;
-            return None;
-        }
-        self.on_push(line, handed)
-    }
-
     /// Hears a push of a host: the record at the next place.
     fn on_push(&mut self, line: &[u8], handed: &mut Vec<u8>) -> Option<PeerEvent>
-        requires { (self.old.phase ≡ Phase.Pushed) ⊎ (self.old.phase ≡ Phase.Doubted) }
+        requires { self.old.phase ≡ Phase.Pushed }
         ensures hears { Hears self.old line.now handed.old.items result self.new handed.new.items }
         ensures others { self.new ≡ record self.old { phase = self.new.phase; next = self.new.next; missing = self.new.missing } }
     {
@@ -622,7 +588,7 @@ impl Follower {
         Ok(())
     }
 
-    /// Hands a record to the hub, as a line.
+    /// Hands a record on, as a line.
     fn hand(&mut self, said: Record, handed: &mut Vec<u8>) -> Result<(), OutOfMemory>
         requires { self.old.next ≤ most_records widest }
         ensures handed { OnOk result (handed.new.items ≡ handed.old.items ++ (record_spelling said ++ 10 ∷ [])) }

@@ -4,8 +4,6 @@ ghost use Rattle.std.specs.Prelude.{◌≡◌};
 ghost use Rattle.warp_record.specs.Record.{origin_of};
 ghost use Rattle.warp_hub.specs.Rights as spec;
 
-use itoa::Buffer;
-use std::alloc::{AllocError, Global};
 use warp_record::{Line, Record};
 
 /// The most origins of a program in any form.
@@ -91,30 +89,4 @@ impl Rights {
             _ => self.is_known(),
         }
     }
-
-    /// The line that tells them: `may` and what may be sent, with a line feed.
-    pub(crate) fn line(&self, alloc: Global) -> Result<Vec<u8>, AllocError> {
-        let mut text = Vec::new(alloc);
-        text.extend_from_slice(b"may")?;
-        match self {
-            Rights::Nothing => {}
-            Rights::Read => text.extend_from_slice(b" read")?,
-            Rights::Origins(origins) => write_origins(origins, &mut text)?,
-            Rights::All => text.extend_from_slice(b" *")?,
-        }
-        text.push(b'\n')?;
-        Ok(text)
-    }
-}
-
-/// Appends the numbers of these origins, in rising order, a space in front of each.
-fn write_origins(origins: &[bool; MOST_ORIGINS], text: &mut Vec<u8>) -> Result<(), AllocError> {
-    for (origin, may) in origins.iter().enumerate() {
-        if *may {
-            text.push(b' ')?;
-            let mut buffer = Buffer::new();
-            text.extend_from_slice(buffer.format(origin).as_bytes())?;
-        }
-    }
-    Ok(())
 }

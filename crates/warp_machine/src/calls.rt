@@ -1,10 +1,15 @@
 //! What comes to the machine of its connections and of the journal, and what it wants.
-
-ghost use Rattle.std.specs.Prelude.{◌≤◌, length};
+ghost use Rattle.std.specs.Prelude.{◌≡◌, ◌≤◌, ◌++◌, [], IfSome, OnErr, OnOk, Some, drop, length, slice_get, take};
+ghost use Rattle.warp_clients.specs.Crowd.{IsAway, IsOutputOf};
+ghost use Rattle.warp_replica.specs.Answered.{facts_of};
+ghost use Rattle.warp_clients.specs.Client.{ClientState, IsMe};
+ghost use Rattle.warp_clients.specs.Steps as steps;
+ghost use Rattle.warp_machine.specs.Moving.{Moved, Stepped, clients_in, with_limit};
 
 use crate::action::{Action, Ending};
-use crate::conns::{MOST_REST, Want};
+use crate::conn::Want;
 use crate::machine::Machine;
+use crate::moves;
 use crate::start::JournalSeen;
 use warp_clients::{ClientId, Kind};
 use warp_line::Timeline;
@@ -17,144 +22,172 @@ pub(crate) const MOST_UNREAD: usize = 65_536;
 
 impl<T: Timeline> Machine<T> {
     /// A connection has come: who it is. `None` where it is turned away, and to be closed.
-    pub fn came(&mut self, now: u64) -> Option<ClientId> {
+    pub fn came(&mut self, now: u64) -> Option<ClientId>
+        ensures moved { Moved (facts_of T.settled T.refused T.floor T.SLACK)
+            (clients_in self.old) (clients_in self.new) }
+        ensures joins { IfSome result (λ who. Stepped (facts_of T.settled T.refused T.floor T.SLACK) (steps.Joins who)
+            (clients_in self.old) (clients_in self.new)) }
+    {
         self.now = now;
-        if self.ending.is_some() {
+        if !self.lets_in() {
             return None;
         }
-        if self.conns.count() >= self.options.most_clients {
-            self.counted.turned_away = self.counted.turned_away.saturating_add(1);
+        let Some(who) = moves::come(&mut self.clients) else {
             return None;
-        }
-        self.conns.reserve().ok()?;
-        let who = self.clients.come().ok()?;
-        if self.watchers.place(who).is_err() || !self.conns.place(who, None, now) {
-            self.clients.leave(who);
+        };
+        if !self.give_place(who, None) {
+            moves::leave(&mut self.clients, who);
             return None;
         }
         Some(who)
     }
 
+    /// Whether one more is let in. One that is turned away is counted.
+    fn lets_in(&mut self) -> bool
+        ensures { self.new.clients ≡ self.old.clients }
+    {
+        if self.ending.is_some() {
+            return false;
+        }
+        if self.conns.count() >= self.options.most_clients {
+            self.counted.turned_away = self.counted.turned_away.saturating_add(1);
+            return false;
+        }
+        self.conns.reserve().is_ok()
+    }
+
+    /// Gives a client that has come its place; whether there was memory.
+    pub(crate) fn give_place(&mut self, who: ClientId, peer: Option<u16>) -> bool
+        ensures { self.new.clients ≡ self.old.clients }
+    {
+        if self.watchers.place(who).is_err() {
+            return false;
+        }
+        self.conns.place(who, peer, self.now)
+    }
+
     /// Bytes of a client came, at most 16,384 at once and only where `wants` says so: how many are taken, which are all.
-    pub fn bytes(&mut self, who: ClientId, bytes: &[u8], now: u64) -> usize {
+    pub fn bytes(&mut self, who: ClientId, bytes: &[u8], now: u64) -> usize
+        ensures moved { Moved (facts_of T.settled T.refused T.floor T.SLACK)
+            (clients_in self.old) (clients_in self.new) }
+        ensures all { result ≡ length bytes.now }
+    {
         self.now = now;
         let is_first = self.clients.kind(who) == Kind::Unknown;
-        let Some(conn) = self.conns.get_mut(who) else {
-            return bytes.len();
-        };
-        if conn.lingers.is_some() || conn.is_deaf {
-            return bytes.len();
-        }
-        conn.heard = now;
-        if is_first {
-            conn.answered = now;
-            conn.sent = now;
-        }
-        let is_next = conn.rest.is_empty();
-        let heard = if is_next { self.hear(who, bytes) } else { 0 };
-        self.keep(who, &bytes[heard..]);
-        self.say(who);
-        if self.wants(who) {
-            self.conns.unwant_hear(who);
+        if self.conns.note_bytes(who, is_first, now) {
+            self.take(who, bytes);
         }
         bytes.len()
     }
 
-    /// A client hears the first of these bytes for which it has room: how many; all where its connection is lost.
-    fn hear(&mut self, who: ClientId, bytes: &[u8]) -> usize
-        ensures { result ≤ length bytes.now }
+    /// A client hears these bytes, as far as it has room; the others are kept for it. Then it is asked what it says.
+    fn take(&mut self, who: ClientId, bytes: &[u8])
+        ensures { Moved (facts_of T.settled T.refused T.floor T.SLACK) self.old.clients self.new.clients }
     {
-        match self.clients.hear(who, bytes) {
-            Ok(count) => count,
-            Err(_) => bytes.len(),
+        let heard = self.hear(who, bytes);
+        self.conns.keep(who, &bytes[heard..]);
+        self.say(who);
+        if self.wants(who) {
+            self.conns.unwant_hear(who);
         }
     }
 
-    /// Keeps bytes of a client for which it had no room. Where there are too many, or no memory, it is to be closed.
-    fn keep(&mut self, who: ClientId, bytes: &[u8]) {
-        if bytes.is_empty() {
-            return;
+    /// A client hears the first of these bytes for which it has room, where none wait before them: how many; all where its
+    /// connection is lost.
+    fn hear(&mut self, who: ClientId, bytes: &[u8]) -> usize
+        ensures moved { Moved (facts_of T.settled T.refused T.floor T.SLACK) self.old.clients self.new.clients }
+        ensures most { result ≤ length bytes.now }
+    {
+        if self.conns.has_rest(who) {
+            return 0;
         }
-        let Some(conn) = self.conns.get_mut(who) else {
-            return;
-        };
-        if bytes.len() > MOST_REST.saturating_sub(conn.rest.len())
-            || conn.rest.extend_from_slice(bytes).is_err()
-        {
-            self.conns.want(who, Want::Close);
+        match moves::hear(&mut self.clients, who, bytes) {
+            Some(count) => count,
+            None => bytes.len(),
         }
     }
 
     /// Whether bytes of a client are wanted now. Where they are not, `Action::Hear` says when they are. Of a client whose
     /// way out was shut they always are, and are dropped.
     pub fn wants(&self, who: ClientId) -> bool {
-        let Some(conn) = self.conns.get(who) else {
-            return false;
-        };
-        if conn.lingers.is_some() {
+        if self.conns.is_lingering(who) {
             return true;
         }
-        !conn.is_deaf && conn.rest.is_empty() && self.clients.wants(who)
+        self.conns.may_hear(who) && self.clients.wants(who)
     }
 
     /// The other end of a client's connection has said all.
-    pub fn ended(&mut self, who: ClientId, now: u64) {
+    pub fn ended(&mut self, who: ClientId, now: u64)
+        ensures { Moved (facts_of T.settled T.refused T.floor T.SLACK)
+            (clients_in self.old) (clients_in self.new) }
+    {
         self.now = now;
-        let Some(conn) = self.conns.get_mut(who) else {
-            return;
-        };
-        conn.has_ended = true;
-        conn.is_deaf = true;
-        if conn.lingers.is_some() {
-            self.conns.want(who, Want::Close);
-            return;
+        if self.conns.note_end(who) {
+            self.say(who);
         }
-        self.say(who);
     }
 
     /// A client's connection has failed, and is closed: nothing is known of it any more.
-    pub fn gone(&mut self, who: ClientId, now: u64) {
+    pub fn gone(&mut self, who: ClientId, now: u64)
+        ensures { Moved (facts_of T.settled T.refused T.floor T.SLACK)
+            (clients_in self.old) (clients_in self.new) }
+    {
         self.now = now;
         self.forget(who);
     }
 
     /// Nothing is known of a client any more.
-    pub(crate) fn forget(&mut self, who: ClientId) {
+    pub(crate) fn forget(&mut self, who: ClientId)
+        ensures { Moved (facts_of T.settled T.refused T.floor T.SLACK) self.old.clients self.new.clients }
+    {
         self.conns.leave(who);
         self.watchers.leave(who);
-        self.clients.leave(who);
+        moves::leave(&mut self.clients, who);
         self.look_at_end();
     }
 
     /// The next bytes to be written to a client; none where it is not there.
-    pub fn output(&self, who: ClientId) -> &[u8] {
+    pub fn output(&self, who: ClientId) -> &[u8]
+        ensures there { (c : ClientState) → slice_get (clients_in self.entry.now).crowd.clients who.key ≡ Some c → IsMe who c
+            → IsOutputOf result.now c }
+        ensures away { IsAway who (clients_in self.entry.now).crowd.clients → result.now ≡ [] }
+    {
         self.clients.output(who)
     }
 
     /// The first so many of these were written.
-    pub fn sent(&mut self, who: ClientId, count: usize, now: u64) {
+    pub fn sent(&mut self, who: ClientId, count: usize, now: u64)
+        ensures { Moved (facts_of T.settled T.refused T.floor T.SLACK)
+            (clients_in self.old) (clients_in self.new) }
+    {
         self.now = now;
         self.time_answers();
         let wanted = self.wants(who);
-        let was_behind = self.clients.is_behind(who);
         let was_full = self.clients.unread(who) >= MOST_UNREAD;
-        self.clients.written(who, count);
-        if let Some(conn) = self.conns.get_mut(who) {
-            conn.sent = now;
-            if was_behind {
-                conn.heard = now;
-            }
-        }
+        self.conns.note_sent(who, self.clients.is_behind(who), now);
+        moves::written(&mut self.clients, who, count);
         self.look_at_changes();
         self.push_skipped(who);
+        self.go_on_behind(who, wanted, was_full);
+    }
+
+    /// Something was written to a client: what it may want behind it.
+    fn go_on_behind(&mut self, who: ClientId, wanted: bool, was_full: bool)
+        ensures { self.new.clients ≡ self.old.clients }
+    {
         if was_full {
-            let _ = self.watchers.want(who.key);
+            let _is_noted = self.watchers.want(who.key);
         }
         if self.clients.output(who).is_empty() {
-            if let Some(conn) = self.conns.get_mut(who) {
-                conn.is_writing = false;
-            }
+            self.conns.set_writing(who, false);
         }
+        self.want_hear(who, wanted);
+    }
+
+    /// That a client is read again is wanted, where its bytes are wanted and were not before.
+    pub(crate) fn want_hear(&mut self, who: ClientId, wanted: bool)
+        ensures { self.new.clients ≡ self.old.clients }
+    {
         if !wanted && self.wants(who) {
             self.conns.want(who, Want::Hear);
         }
@@ -162,25 +195,40 @@ impl<T: Timeline> Machine<T> {
 
     /// Of so long a log may be told from now on, all of it where there is no journal; and whether the journal can't be
     /// written: then records of clients are refused 14, and peers wait.
-    pub fn told_up_to(&mut self, limit: u32, is_failing: bool, now: u64) {
+    pub fn told_up_to(&mut self, limit: u32, is_failing: bool, now: u64)
+        ensures moved { Moved (facts_of T.settled T.refused T.floor T.SLACK)
+            (clients_in self.old) (clients_in self.new) }
+        ensures told { clients_in self.new ≡ with_limit limit is_failing (clients_in self.old) }
+    {
         self.now = now;
+        self.note_journal(limit, is_failing);
+        self.clients.told_up_to(limit);
+        self.clients.refuse_records(is_failing);
+    }
+
+    /// Notes of so long a log may be told, and whether the journal can't be written.
+    fn note_journal(&mut self, limit: u32, is_failing: bool)
+        ensures { self.new.clients ≡ self.old.clients }
+    {
         self.has_more |= limit != self.limit || is_failing != self.is_failing;
         if self.is_failing && !is_failing {
             self.wake_peers();
         }
         self.limit = limit;
         self.is_failing = is_failing;
-        self.clients.told_up_to(limit);
-        self.clients.refuse_records(is_failing);
     }
 
     /// The journal can't be written until the end: the host has ended.
-    pub fn journal_failed(&mut self) {
+    pub fn journal_failed(&mut self)
+        ensures { clients_in self.new ≡ clients_in self.old }
+    {
         self.end_for(Ending::Journal);
     }
 
     /// How many records the log has.
-    pub fn len(&self) -> u32 {
+    pub fn len(&self) -> u32
+        ensures { result ≡ length (clients_in self.entry.now).room.replica.records }
+    {
         self.clients.room().len()
     }
 
@@ -191,23 +239,34 @@ impl<T: Timeline> Machine<T> {
         count: u32,
         most: u32,
         list: &mut Vec<Record>,
-    ) -> Result<(), OutOfMemory> {
+    ) -> Result<(), OutOfMemory>
+        ensures ok { OnOk result (list.new.items
+            ≡ list.old.items ++ take most (drop count (clients_in self.entry.now).room.replica.records)) }
+        ensures err { OnErr result (list.new.items ≡ list.old.items) }
+    {
         self.clients.room().records_behind(count, most, list)
     }
 
     /// This is so of the journal and of the listener.
-    pub fn seen(&mut self, seen: JournalSeen) {
+    pub fn seen(&mut self, seen: JournalSeen)
+        ensures { clients_in self.new ≡ clients_in self.old }
+    {
         self.journal = seen;
     }
 
     /// Standard input has ended: no more connections are let in, what clients said is answered, and the host ends once they
     /// are gone, within ten seconds.
-    pub fn input_ended(&mut self, now: u64) {
+    pub fn input_ended(&mut self, now: u64)
+        ensures { Moved (facts_of T.settled T.refused T.floor T.SLACK)
+            (clients_in self.old) (clients_in self.new) }
+    {
         self.end_in_order(Note::InputEnded, now);
     }
 
     /// The same, for the reason that this note tells.
-    pub(crate) fn end_in_order(&mut self, why: Note, now: u64) {
+    pub(crate) fn end_in_order(&mut self, why: Note, now: u64)
+        ensures { Moved (facts_of T.settled T.refused T.floor T.SLACK) self.old.clients self.new.clients }
+    {
         self.now = now;
         if self.ending.is_some() {
             return;
@@ -216,25 +275,30 @@ impl<T: Timeline> Machine<T> {
         self.ending = Some(now);
         self.shuts = true;
         self.peers.clear();
-        for at in 0..self.conns.places() {
-            if let Some(who) = self.conns.who(at) {
-                self.stop_hearing(who);
-            }
-        }
+        self.stop_hearing_all();
         self.look_at_end();
     }
 
+    /// Nothing more of any client is read.
+    fn stop_hearing_all(&mut self)
+        ensures { Moved (facts_of T.settled T.refused T.floor T.SLACK) self.old.clients self.new.clients }
+    {
+        for at in 0..self.conns.places() {
+            let who = self.conns.who(at);
+            if let Some(who) = who {
+                self.stop_hearing(who);
+            }
+        }
+    }
+
     /// Nothing more of a client is read. One that has not said what it speaks, or speaks HTTP, goes.
-    fn stop_hearing(&mut self, who: ClientId) {
+    fn stop_hearing(&mut self, who: ClientId)
+        ensures { Moved (facts_of T.settled T.refused T.floor T.SLACK) self.old.clients self.new.clients }
+    {
         let kind = self.clients.kind(who);
-        let Some(conn) = self.conns.get_mut(who) else {
-            return;
-        };
-        if conn.peer.is_some() || conn.lingers.is_some() {
+        if !self.conns.deafen(who) {
             return;
         }
-        conn.ceases = !conn.is_deaf;
-        conn.is_deaf = true;
         match kind {
             Kind::Lines | Kind::Web => self.say(who),
             Kind::Unknown | Kind::Http | Kind::Over => self.conns.want(who, Want::Close),
@@ -242,7 +306,9 @@ impl<T: Timeline> Machine<T> {
     }
 
     /// The host has ended, for this.
-    pub(crate) fn end_for(&mut self, why: Ending) {
+    pub(crate) fn end_for(&mut self, why: Ending)
+        ensures { self.new.clients ≡ self.old.clients }
+    {
         if !self.is_over {
             self.is_over = true;
             self.over = Some(why);
@@ -250,7 +316,10 @@ impl<T: Timeline> Machine<T> {
     }
 
     /// What is to be done next; none where nothing is. What it wants is asked for behind each other call.
-    pub fn next(&mut self) -> Option<Action> {
+    pub fn next(&mut self) -> Option<Action>
+        ensures { Moved (facts_of T.settled T.refused T.floor T.SLACK)
+            (clients_in self.old) (clients_in self.new) }
+    {
         if let Some(note) = self.notes.pop_front() {
             return Some(Action::Tell(note));
         }
@@ -258,10 +327,7 @@ impl<T: Timeline> Machine<T> {
             self.shuts = false;
             return Some(Action::Listen(false));
         }
-        if let Some(action) = self.conns.next_wanted() {
-            if let Action::Close(who) = action {
-                self.forget(who);
-            }
+        if let Some(action) = self.next_of_conns() {
             return Some(action);
         }
         if let Some(action) = self.next_of_peers() {
@@ -270,5 +336,16 @@ impl<T: Timeline> Machine<T> {
         let why = self.over?;
         self.over = None;
         Some(Action::Over(why))
+    }
+
+    /// What is to be done next for a connection. Of one that is to be closed nothing is known then.
+    fn next_of_conns(&mut self) -> Option<Action>
+        ensures { Moved (facts_of T.settled T.refused T.floor T.SLACK) self.old.clients self.new.clients }
+    {
+        let action = self.conns.next_wanted()?;
+        if let Action::Close(who) = action {
+            self.forget(who);
+        }
+        Some(action)
     }
 }

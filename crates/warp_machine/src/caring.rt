@@ -1,56 +1,48 @@
 //! What is done once a second: late clients go, silent ones are pinged, an operator is told what there is to tell, and what
 //! is measured is noted.
 
+ghost use Rattle.std.specs.Prelude.{◌≡◌};
+ghost use Rattle.warp_replica.specs.Answered.{facts_of};
+ghost use Rattle.warp_machine.specs.Moving.{Moved, clients_in};
+
 use crate::action::Ending;
-use crate::conns::Want;
+use crate::conn::{SECOND, Want, is_past};
 use crate::machine::Machine;
+use crate::moves;
 use warp_clients::{ClientId, Kind};
 use warp_line::Timeline;
 use warp_pages::Seen;
 use warp_record::{Query, Reply};
 use warp_service::Note;
 
-const SECOND: u64 = 1_000_000;
-
-/// For how long a connection may bring no whole request over HTTP, and for how long it may take nothing of an answer.
-const MOST_SILENCE: u64 = 10 * SECOND;
-
-const MOST_STALL: u64 = 60 * SECOND;
-
-/// How long a client may be silent over WebSocket before it is pinged, and how long before it is closed.
-const PING_AFTER: u64 = 30 * SECOND;
-
-const CLOSE_AFTER: u64 = 60 * SECOND;
-
-/// How long a client that is told nothing more may take until it closes.
-const LINGER: u64 = 2 * SECOND;
-
-/// How long the last output of a client may wait.
-const LAST_WORDS: u64 = 10 * SECOND;
-
 /// For how long the host may go on when it ends.
 const LONGEST_END: u64 = 10 * SECOND;
 
-/// Whether so many microseconds are over since then.
-fn is_past(now: u64, since: u64, span: u64) -> bool {
-    now.saturating_sub(since) >= span
-}
-
 impl<T: Timeline> Machine<T> {
     /// Looks at what is late: peers, and once a second clients and what an operator is told.
-    pub fn tick(&mut self, now: u64) {
+    pub fn tick(&mut self, now: u64)
+        ensures { Moved (facts_of T.settled T.refused T.floor T.SLACK)
+            (clients_in self.old) (clients_in self.new) }
+    {
         self.now = now;
         if self.is_over {
             return;
         }
         self.tick_peers();
         if self.timers.look(now) {
-            self.look_after_clients();
-            self.tell_operator();
-            self.time_answers();
-            self.note_seen();
+            self.look_around();
         }
         self.look_at_end();
+    }
+
+    /// Looks after clients, and at what an operator is told and what is measured.
+    fn look_around(&mut self)
+        ensures { Moved (facts_of T.settled T.refused T.floor T.SLACK) self.old.clients self.new.clients }
+    {
+        self.look_after_clients();
+        self.tell_operator();
+        self.time_answers();
+        self.note_seen();
     }
 
     /// The next moment at which there is something to do though nothing comes: 0 where that is now.
@@ -71,91 +63,79 @@ impl<T: Timeline> Machine<T> {
     }
 
     /// Looks after each client.
-    fn look_after_clients(&mut self) {
+    fn look_after_clients(&mut self)
+        ensures { Moved (facts_of T.settled T.refused T.floor T.SLACK) self.old.clients self.new.clients }
+    {
         for at in 0..self.conns.places() {
-            if let Some(who) = self.conns.who(at) {
+            let who = self.conns.who(at);
+            if let Some(who) = who {
                 self.look_after(who);
             }
         }
     }
 
     /// Looks after a client.
-    fn look_after(&mut self, who: ClientId) {
-        let Some(conn) = self.conns.get(who) else {
-            return;
-        };
-        if conn.peer.is_some() {
-            return;
-        }
-        if let Some(since) = conn.lingers {
-            if is_past(self.now, since, LINGER) {
-                self.conns.want(who, Want::Close);
-            }
+    fn look_after(&mut self, who: ClientId)
+        ensures { Moved (facts_of T.settled T.refused T.floor T.SLACK) self.old.clients self.new.clients }
+    {
+        if !self.conns.has(who) || self.conns.peer(who).is_some() {
             return;
         }
-        let is_late = match self.clients.kind(who) {
-            Kind::Http => self.is_late(who),
-            Kind::Web => self.is_silent(who),
-            Kind::Unknown | Kind::Lines | Kind::Over => false,
-        };
-        if is_late || self.has_had_its_words(who) {
+        if let Some(is_late) = self.conns.has_lingered(who, self.now) {
+            self.close_if(who, is_late);
+            return;
+        }
+        let is_late = self.is_late_or_silent(who);
+        let has_had = self
+            .conns
+            .has_had_its_words(who, self.clients.is_stopped(who), self.now);
+        self.close_if(who, is_late || has_had);
+    }
+
+    /// A client's connection is to be closed, if that is so.
+    fn close_if(&mut self, who: ClientId, closes: bool)
+        ensures { self.new.clients ≡ self.old.clients }
+    {
+        if closes {
             self.conns.want(who, Want::Close);
         }
     }
 
-    /// Whether a client that speaks HTTP brings no whole request, or takes nothing of its answers.
-    fn is_late(&self, who: ClientId) -> bool {
-        let Some(conn) = self.conns.get(who) else {
-            return false;
-        };
-        if !self.clients.output(who).is_empty() {
-            return is_past(self.now, conn.sent, MOST_STALL);
+    /// Whether a client that speaks HTTP is late, or one that speaks WebSocket silent.
+    fn is_late_or_silent(&mut self, who: ClientId) -> bool
+        ensures { Moved (facts_of T.settled T.refused T.floor T.SLACK) self.old.clients self.new.clients }
+    {
+        match self.clients.kind(who) {
+            Kind::Http => {
+                let has_output = !self.clients.output(who).is_empty();
+                self.conns.is_late(who, has_output, self.now)
+            }
+            Kind::Web => self.is_silent(who),
+            Kind::Unknown | Kind::Lines | Kind::Over => false,
         }
-        is_past(self.now, conn.answered.max(conn.sent), MOST_SILENCE)
     }
 
     /// Whether a client that speaks WebSocket was silent for too long. Before that it is pinged, where nothing is on its
     /// way to it.
-    fn is_silent(&mut self, who: ClientId) -> bool {
-        let now = self.now;
-        let is_quiet = !self.clients.is_closing(who) && self.clients.output(who).is_empty();
-        let Some(conn) = self.conns.get_mut(who) else {
-            return false;
-        };
-        if is_past(now, conn.heard, CLOSE_AFTER) {
+    fn is_silent(&mut self, who: ClientId) -> bool
+        ensures { Moved (facts_of T.settled T.refused T.floor T.SLACK) self.old.clients self.new.clients }
+    {
+        if self.conns.is_silent(who, self.now) {
             return true;
         }
-        let is_due = is_past(now, conn.heard, PING_AFTER) && is_past(now, conn.pinged, PING_AFTER);
-        if is_due && is_quiet {
-            conn.pinged = now;
-            self.clients.ping(who);
-            self.look_at_changes();
+        let is_quiet = !self.clients.is_closing(who) && self.clients.output(who).is_empty();
+        if !is_quiet || !self.conns.take_ping(who, self.now) {
+            return false;
         }
+        moves::ping(&mut self.clients, who);
+        self.look_at_changes();
         false
     }
 
-    /// Whether a client that is told nothing more does not take its last output.
-    fn has_had_its_words(&mut self, who: ClientId) -> bool {
-        let now = self.now;
-        let is_stopped = self.clients.is_stopped(who);
-        let Some(conn) = self.conns.get_mut(who) else {
-            return false;
-        };
-        if !is_stopped {
-            conn.stopped = None;
-            return false;
-        }
-        match conn.stopped {
-            Some(since) => is_past(now, since, LAST_WORDS),
-            None => {
-                conn.stopped = Some(now);
-                false
-            }
-        }
-    }
-
     /// Tells the operator who was refused and who was slow, and that the log is full.
-    fn tell_operator(&mut self) {
+    fn tell_operator(&mut self)
+        ensures { self.new.clients ≡ self.old.clients }
+    {
         let counted = self.counted;
         if counted.turned_away > counted.turned_away_told {
             self.counted.turned_away_told = counted.turned_away;
@@ -185,7 +165,9 @@ impl<T: Timeline> Machine<T> {
     }
 
     /// Notes the horizon, where all is executed.
-    pub(crate) fn note_horizon(&mut self) {
+    pub(crate) fn note_horizon(&mut self)
+        ensures { self.new.clients ≡ self.old.clients }
+    {
         if !self.clients.room().is_settled() {
             return;
         }
@@ -195,7 +177,9 @@ impl<T: Timeline> Machine<T> {
     }
 
     /// Notes what is measured.
-    fn note_seen(&mut self) {
+    fn note_seen(&mut self)
+        ensures { self.new.clients ≡ self.old.clients }
+    {
         self.note_horizon();
         let counts = self.clients.counts();
         let journal = self.journal;
@@ -212,10 +196,7 @@ impl<T: Timeline> Machine<T> {
             horizon_microstep: self.counted.horizon.1,
             peers: self.peers.len() as u64,
             peers_connected: self.peers_found(),
-            clients_refused: self
-                .counted
-                .turned_away
-                .saturating_add(journal.undescribed),
+            clients_refused: self.counted.turned_away.saturating_add(journal.undescribed),
             unauthorized: self.pages.unauthorized(),
             forbidden: self.pages.forbidden(),
             journal_records: u64::from(journal.records),
@@ -228,7 +209,9 @@ impl<T: Timeline> Machine<T> {
     }
 
     /// The host has ended where it ends and all clients are gone, or took too long.
-    pub(crate) fn look_at_end(&mut self) {
+    pub(crate) fn look_at_end(&mut self)
+        ensures { self.new.clients ≡ self.old.clients }
+    {
         let Some(since) = self.ending else {
             return;
         };

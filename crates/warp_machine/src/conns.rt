@@ -1,181 +1,12 @@
-//! The connections of a host: what is known of each beside what its client says, and what is wanted of it.
+//! The connections of a host, by their clients' keys.
+ghost use Rattle.std.specs.Prelude.{◌<◌, IfSome, length};
 
 use crate::action::Action;
+use crate::conn::{CLOSE_AFTER, Conn, LINGER, Want, is_past};
 use std::alloc::{AllocError, Global};
 use std::collections::VecDeque;
 use warp_clients::ClientId;
 use warp_pages::Visit;
-
-/// So many bytes of a connection wait at most for which its client had no room.
-pub(crate) const MOST_REST: usize = 16_384;
-
-/// What may be wanted of a connection.
-#[derive(Clone, Copy, PartialEq, Eq)]
-pub(crate) enum Want {
-    /// That its output is written.
-    Write,
-    /// That it is read again.
-    Hear,
-    /// That its way out is shut.
-    End,
-    /// That it is closed.
-    Close,
-}
-
-impl Want {
-    /// That this is wanted of the connection of a client.
-    fn action(self, who: ClientId) -> Action {
-        match self {
-            Want::Write => Action::Write(who),
-            Want::Hear => Action::Hear(who),
-            Want::End => Action::End(who),
-            Want::Close => Action::Close(who),
-        }
-    }
-}
-
-/// What is wanted of a connection now.
-#[derive(Clone, Copy)]
-struct Wanted {
-    write: bool,
-    hear: bool,
-    end: bool,
-    close: bool,
-}
-
-/// Nothing is wanted.
-const NOTHING: Wanted = Wanted {
-    write: false,
-    hear: false,
-    end: false,
-    close: false,
-};
-
-impl Wanted {
-    /// This is wanted, or no longer.
-    fn set(&mut self, want: Want, is_wanted: bool) {
-        match want {
-            Want::Write => self.write = is_wanted,
-            Want::Hear => self.hear = is_wanted,
-            Want::End => self.end = is_wanted,
-            Want::Close => self.close = is_wanted,
-        }
-    }
-
-    /// What is to be done first; nothing else of what is to be closed.
-    fn first(&self) -> Option<Want> {
-        if self.close {
-            Some(Want::Close)
-        } else if self.write {
-            Some(Want::Write)
-        } else if self.end {
-            Some(Want::End)
-        } else if self.hear {
-            Some(Want::Hear)
-        } else {
-            None
-        }
-    }
-}
-
-/// A connection, or a place where none is.
-#[derive(Drop)]
-pub(crate) struct Conn {
-    round: u64,
-    is_here: bool,
-    /// The peer whose lines it brings: it has no socket.
-    pub(crate) peer: Option<u16>,
-    /// What is known of it between requests.
-    pub(crate) visit: Visit,
-    /// Bytes that came for which its client had no room yet.
-    pub(crate) rest: Vec<u8>,
-    /// When its last request was answered, or it began to speak.
-    pub(crate) answered: u64,
-    /// When something was written to it last, or it began to speak.
-    pub(crate) sent: u64,
-    /// When something came of it last, or was taken by it while it was behind.
-    pub(crate) heard: u64,
-    /// When it was pinged last, or came.
-    pub(crate) pinged: u64,
-    /// Since when its output waits of which its client is told nothing more.
-    pub(crate) stopped: Option<u64>,
-    /// Since when its way out is shut.
-    pub(crate) lingers: Option<u64>,
-    /// The other end has said all.
-    pub(crate) has_ended: bool,
-    /// Nothing more is read of it: its client is told so once it had what came.
-    pub(crate) is_deaf: bool,
-    /// Its client was told so.
-    pub(crate) is_deaf_told: bool,
-    /// That is so since the host ends.
-    pub(crate) ceases: bool,
-    /// It is known that there is output of it.
-    pub(crate) is_writing: bool,
-    is_talking: bool,
-    is_listed: bool,
-    wanted: Wanted,
-}
-
-impl Conn {
-    /// A place where nobody is.
-    fn new(alloc: Global) -> Conn {
-        Conn {
-            round: 0,
-            is_here: false,
-            peer: None,
-            visit: Visit::new(),
-            rest: Vec::new(alloc),
-            answered: 0,
-            sent: 0,
-            heard: 0,
-            pinged: 0,
-            stopped: None,
-            lingers: None,
-            has_ended: false,
-            is_deaf: false,
-            is_deaf_told: false,
-            ceases: false,
-            is_writing: false,
-            is_talking: false,
-            is_listed: false,
-            wanted: NOTHING,
-        }
-    }
-
-    /// Nothing came of this one yet, in this round of its place.
-    fn begin(&mut self, round: u64, peer: Option<u16>, now: u64) {
-        self.round = round;
-        self.is_here = true;
-        self.peer = peer;
-        self.visit = Visit::new();
-        self.answered = now;
-        self.sent = now;
-        self.heard = now;
-        self.pinged = now;
-    }
-
-    /// Whether it is that of this client.
-    fn is_of(&self, who: ClientId) -> bool {
-        self.is_here && self.round == who.round
-    }
-
-    /// Nobody is here any more. Where it stands in lists it is passed over.
-    fn clear(&mut self, alloc: Global) {
-        self.is_here = false;
-        self.is_talking = false;
-        self.is_listed = false;
-        self.peer = None;
-        self.rest = Vec::new(alloc);
-        self.stopped = None;
-        self.lingers = None;
-        self.has_ended = false;
-        self.is_deaf = false;
-        self.is_deaf_told = false;
-        self.ceases = false;
-        self.is_writing = false;
-        self.wanted = NOTHING;
-    }
-}
 
 /// The connections by their clients' keys.
 #[derive(Drop)]
@@ -239,16 +70,211 @@ impl Conns {
         true
     }
 
+    /// The place of a client's connection, if it is there.
+    fn find(&self, who: ClientId) -> Option<usize>
+        ensures { IfSome result (λ at. at < length self.now.all.items) }
+    {
+        let at = who.key as usize;
+        if at >= self.all.len() || !self.all[at].is_of(who) {
+            return None;
+        }
+        Some(at)
+    }
+
     /// The connection of a client.
-    pub(crate) fn get(&self, who: ClientId) -> Option<&Conn> {
+    fn get(&self, who: ClientId) -> Option<&Conn> {
         let conn = self.all.get(who.key as usize)?;
         if conn.is_of(who) { Some(conn) } else { None }
     }
 
-    /// The connection of a client.
-    pub(crate) fn get_mut(&mut self, who: ClientId) -> Option<&mut Conn> {
-        let conn = self.all.get_mut(who.key as usize)?;
-        if conn.is_of(who) { Some(conn) } else { None }
+    /// Whether a client's connection is there.
+    pub(crate) fn has(&self, who: ClientId) -> bool {
+        self.get(who).is_some()
+    }
+
+    /// The peer whose lines a client brings, if it does.
+    pub(crate) fn peer(&self, who: ClientId) -> Option<u16> {
+        self.get(who)?.peer
+    }
+
+    /// Whether bytes of a client wait for which it had no room.
+    pub(crate) fn has_rest(&self, who: ClientId) -> bool {
+        match self.get(who) {
+            Some(conn) => !conn.rest.is_empty(),
+            None => false,
+        }
+    }
+
+    /// The bytes of a client that wait, for which it had no room.
+    pub(crate) fn rest(&self, who: ClientId) -> Option<&[u8]> {
+        let conn = self.get(who)?;
+        Some(&conn.rest)
+    }
+
+    /// Whether bytes of a client wait for which it had no room, or no more come.
+    pub(crate) fn is_to_go_on(&self, who: ClientId) -> bool {
+        match self.get(who) {
+            Some(conn) => conn.is_deaf || !conn.rest.is_empty(),
+            None => false,
+        }
+    }
+
+    /// Whether a client's way out is shut.
+    pub(crate) fn is_lingering(&self, who: ClientId) -> bool {
+        match self.get(who) {
+            Some(conn) => conn.lingers.is_some(),
+            None => false,
+        }
+    }
+
+    /// Whether more bytes of a client may be heard: it is there, none of its wait, and it has not ended.
+    pub(crate) fn may_hear(&self, who: ClientId) -> bool {
+        match self.get(who) {
+            Some(conn) => !conn.is_deaf && conn.rest.is_empty(),
+            None => false,
+        }
+    }
+
+    /// Whether it is known that there is output of a client.
+    pub(crate) fn is_writing(&self, who: ClientId) -> bool {
+        match self.get(who) {
+            Some(conn) => conn.is_writing,
+            None => false,
+        }
+    }
+
+    /// What is known of a client's connection between requests, if it is there.
+    pub(crate) fn visit(&self, who: ClientId) -> Option<Visit> {
+        let conn = self.get(who)?;
+        Some(conn.visit)
+    }
+
+    /// Whether a client brings no whole request, or takes nothing of its answers, which wait or not.
+    pub(crate) fn is_late(&self, who: ClientId, has_output: bool, now: u64) -> bool {
+        match self.get(who) {
+            Some(conn) => conn.is_late(has_output, now),
+            None => false,
+        }
+    }
+
+    /// Whether a client was silent for too long.
+    pub(crate) fn is_silent(&self, who: ClientId, now: u64) -> bool {
+        match self.get(who) {
+            Some(conn) => is_past(now, conn.heard, CLOSE_AFTER),
+            None => false,
+        }
+    }
+
+    /// How long a client's way out is shut that may take no longer; none where it is not shut.
+    pub(crate) fn has_lingered(&self, who: ClientId, now: u64) -> Option<bool> {
+        let conn = self.get(who)?;
+        let since = conn.lingers?;
+        Some(is_past(now, since, LINGER))
+    }
+
+    /// Bytes came of a client; whether they are for it.
+    pub(crate) fn note_bytes(&mut self, who: ClientId, is_first: bool, now: u64) -> bool {
+        let Some(at) = self.find(who) else {
+            return false;
+        };
+        self.all[at].note_bytes(is_first, now)
+    }
+
+    /// Keeps bytes of a client for which it had no room. Where there are too many, or no memory, it is to be closed.
+    pub(crate) fn keep(&mut self, who: ClientId, bytes: &[u8]) {
+        if bytes.is_empty() {
+            return;
+        }
+        let Some(at) = self.find(who) else {
+            return;
+        };
+        if !self.all[at].keep(bytes) {
+            self.want(who, Want::Close);
+        }
+    }
+
+    /// The other end of a client has said all. Whether it is to be told so; else it is to be closed, if it is there.
+    pub(crate) fn note_end(&mut self, who: ClientId) -> bool {
+        let Some(at) = self.find(who) else {
+            return false;
+        };
+        if self.all[at].note_end() {
+            return true;
+        }
+        self.want(who, Want::Close);
+        false
+    }
+
+    /// Nothing more is read of a client since the host ends; whether that is new.
+    pub(crate) fn deafen(&mut self, who: ClientId) -> bool {
+        let Some(at) = self.find(who) else {
+            return false;
+        };
+        self.all[at].deafen()
+    }
+
+    /// Something was written to a client, which was behind or not.
+    pub(crate) fn note_sent(&mut self, who: ClientId, was_behind: bool, now: u64) {
+        let Some(at) = self.find(who) else {
+            return;
+        };
+        self.all[at].note_sent(was_behind, now);
+    }
+
+    /// It is known that there is output of a client, or that there is none.
+    pub(crate) fn set_writing(&mut self, who: ClientId, is_writing: bool) {
+        let Some(at) = self.find(who) else {
+            return;
+        };
+        self.all[at].is_writing = is_writing;
+    }
+
+    /// What is known of a client's connection after it was asked what it says, and whether a request of its was answered.
+    pub(crate) fn note_visit(&mut self, who: ClientId, visit: Visit, has_answered: bool, now: u64) {
+        let Some(at) = self.find(who) else {
+            return;
+        };
+        self.all[at].note_visit(visit, has_answered, now);
+    }
+
+    /// A client heard the first so many bytes that waited. Whether some wait still.
+    pub(crate) fn drop_rest(&mut self, who: ClientId, count: usize) -> bool {
+        let Some(at) = self.find(who) else {
+            return false;
+        };
+        self.all[at].drop_rest(self.alloc, count)
+    }
+
+    /// What a client is to be told of its end, once: that nothing more is heard, since the host ends or not.
+    pub(crate) fn take_end(&mut self, who: ClientId) -> Option<bool> {
+        let at = self.find(who)?;
+        self.all[at].take_end()
+    }
+
+    /// A client is told nothing more, and all is written, or its connection is lost: it is to be closed, or its way out shut.
+    pub(crate) fn part(&mut self, who: ClientId, is_lost: bool, now: u64) {
+        let Some(at) = self.find(who) else {
+            return;
+        };
+        if let Some(want) = self.all[at].part(is_lost, now) {
+            self.want(who, want);
+        }
+    }
+
+    /// Whether a client that is told nothing more, or may be, does not take its last output.
+    pub(crate) fn has_had_its_words(&mut self, who: ClientId, is_stopped: bool, now: u64) -> bool {
+        let Some(at) = self.find(who) else {
+            return false;
+        };
+        self.all[at].has_had_its_words(is_stopped, now)
+    }
+
+    /// Whether a client is to be pinged, which it then is.
+    pub(crate) fn take_ping(&mut self, who: ClientId, now: u64) -> bool {
+        let Some(at) = self.find(who) else {
+            return false;
+        };
+        self.all[at].take_ping(now)
     }
 
     /// Who is in a place.
@@ -265,27 +291,26 @@ impl Conns {
 
     /// A client is gone.
     pub(crate) fn leave(&mut self, who: ClientId) {
-        let alloc = self.alloc;
-        let Some(conn) = self.get_mut(who) else {
+        let Some(at) = self.find(who) else {
             return;
         };
-        let has_socket = conn.peer.is_none();
-        conn.clear(alloc);
-        if has_socket {
+        if self.all[at].peer.is_none() {
             self.count = self.count.saturating_sub(1);
         }
+        self.all[at].clear(self.alloc);
     }
 
     /// A client may say something.
     pub(crate) fn talk(&mut self, who: ClientId) {
-        let at = who.key as usize;
-        let Some(conn) = self.all.get_mut(at) else {
+        let Some(at) = self.find(who) else {
             return;
         };
-        if conn.is_of(who) && !conn.is_talking {
-            // There is room: it was taken with the place.
-            conn.is_talking = self.talking.push_back(who).is_ok();
+        if self.all[at].is_talking {
+            return;
         }
+        // There is room: it was taken with the place.
+        let is_talking = self.talking.push_back(who).is_ok();
+        self.all[at].is_talking = is_talking;
     }
 
     /// How many may say something.
@@ -293,45 +318,60 @@ impl Conns {
         self.talking.len()
     }
 
-    /// The next that may say something, if it is still there; it stands among them no more.
+    /// The next that may say something; it stands among them no more.
     pub(crate) fn next_talking(&mut self) -> Option<ClientId> {
         let who = self.talking.pop_front()?;
-        // Its place may be another's by now.
-        if let Some(conn) = self.get_mut(who) {
-            conn.is_talking = false;
-        }
+        self.unlist_talking(who);
         Some(who)
+    }
+
+    /// A client stands no more among those that may say something, if it is there: its place may be another's by now.
+    fn unlist_talking(&mut self, who: ClientId) {
+        let Some(at) = self.find(who) else {
+            return;
+        };
+        self.all[at].is_talking = false;
     }
 
     /// This is wanted of a connection.
     pub(crate) fn want(&mut self, who: ClientId, want: Want) {
-        let Some(conn) = self.get_mut(who) else {
+        let Some(at) = self.find(who) else {
             return;
         };
-        if conn.peer.is_some() {
+        if self.all[at].peer.is_some() {
             return;
         }
-        conn.wanted.set(want, true);
+        self.all[at].wanted.set(want, true);
         self.list(who);
     }
 
     /// That it is read again is not wanted: who reads it asks.
     pub(crate) fn unwant_hear(&mut self, who: ClientId) {
-        if let Some(conn) = self.get_mut(who) {
-            conn.wanted.set(Want::Hear, false);
-        }
+        let Some(at) = self.find(who) else {
+            return;
+        };
+        self.all[at].wanted.set(Want::Hear, false);
     }
 
     /// Something is wanted of this connection.
     fn list(&mut self, who: ClientId) {
-        let at = who.key as usize;
-        let Some(conn) = self.all.get_mut(at) else {
+        let Some(at) = self.find(who) else {
             return;
         };
-        if !conn.is_listed {
-            // There is room: it was taken with the place.
-            conn.is_listed = self.listed.push_back(who).is_ok();
+        if self.all[at].is_listed {
+            return;
         }
+        // There is room: it was taken with the place.
+        let is_listed = self.listed.push_back(who).is_ok();
+        self.all[at].is_listed = is_listed;
+    }
+
+    /// A connection is listed no more among those of which something is wanted.
+    fn unlist(&mut self, who: ClientId) {
+        let Some(at) = self.find(who) else {
+            return;
+        };
+        self.all[at].is_listed = false;
     }
 
     /// Whether something is wanted.
@@ -342,10 +382,10 @@ impl Conns {
     /// What is wanted next.
     pub(crate) fn next_wanted(&mut self) -> Option<Action> {
         for _ in 0..self.listed.len() {
-            let who = self.listed.pop_front()?;
-            if let Some(conn) = self.get_mut(who) {
-                conn.is_listed = false;
-            }
+            let Some(who) = self.listed.pop_front() else {
+                return None;
+            };
+            self.unlist(who);
             if let Some(action) = self.wanted_of(who) {
                 return Some(action);
             }
@@ -355,10 +395,9 @@ impl Conns {
 
     /// What is wanted of this connection; it is listed again where there is more.
     fn wanted_of(&mut self, who: ClientId) -> Option<Action> {
-        let conn = self.get_mut(who)?;
-        let want = conn.wanted.first()?;
-        conn.wanted.set(want, false);
-        if conn.wanted.first().is_some() {
+        let at = self.find(who)?;
+        let want = self.all[at].wanted.take()?;
+        if self.all[at].wanted.is_any() {
             self.list(who);
         }
         Some(want.action(who))

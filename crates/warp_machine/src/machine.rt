@@ -1,21 +1,26 @@
 //! The machine: what it holds, and how it begins.
 
+ghost use Rattle.std.specs.Prelude.{◌≡◌, IfOk};
+ghost use Rattle.warp_replica.specs.Answered.{facts_of};
+ghost use Rattle.warp_machine.specs.Moving.{Began, Moved, clients_in};
+
 use crate::action::Ending;
 use crate::conns::Conns;
+use crate::moves;
 use crate::operating::Level;
 use crate::peering::Followed;
 use crate::start::{JournalSeen, Options, PeerAt, Start};
-use crate::stepping::Steps;
-use crate::watchers::Watchers;
 use std::alloc::Global;
 use std::collections::VecDeque;
 use warp_clients::Clients;
 use warp_hub::Rights;
 use warp_line::Timeline;
-use warp_pages::{Pages, Stopwatch};
+use warp_pages::{Pages, Seen, Stopwatch};
+use warp_push::{Steps, Watchers};
 use warp_room::Room;
 use warp_service::{Named, Note, Peer, Timers};
 use warp_tag::{Form, OutOfMemory};
+use warp_trace::Labels;
 
 /// So many lines of a client may wait in the room.
 const MOST_LINES: u32 = 256;
@@ -76,6 +81,8 @@ pub struct Machine<T: Timeline> {
     pub(crate) conns: Conns,
     pub(crate) watchers: Watchers,
     pub(crate) steps: Steps,
+    /// The names by which steps are told; none while they are lent to who notes.
+    pub(crate) labels: Option<Labels>,
     pub(crate) pages: Pages,
     pub(crate) peers: Vec<Followed>,
     /// Some peer may want something.
@@ -117,13 +124,15 @@ pub struct Machine<T: Timeline> {
 
 impl<T: Timeline> Machine<T> {
     /// A host that begins now: nothing of its log may be told yet (`told_up_to`).
-    pub fn new(alloc: Global, start: Start<T>, now: u64) -> Result<Machine<T>, OutOfMemory> {
+    pub fn new(alloc: Global, start: Start<T>, now: u64) -> Result<Machine<T>, OutOfMemory>
+        ensures { IfOk result (λ machine. Began (facts_of T.settled T.refused T.floor T.SLACK) (clients_in machine)) }
+    {
         let Start {
             keys,
             replica,
             mut facts,
             labels,
-            pages,
+            texts,
             peers,
             options,
         } = start;
@@ -134,19 +143,47 @@ impl<T: Timeline> Machine<T> {
         let Ok(program) = Vec::from_slice(alloc, &facts.program) else {
             return Err(OutOfMemory);
         };
-        let most_records = form.most_records();
-        let has_tokens = pages.has_tokens();
+        let seen = Seen::nothing(u64::from(options.wanted), u64::from(form.most_records()));
+        let pages = Pages::new(alloc, texts, seen)?;
         let room = Room::new(alloc, replica, MOST_LINES, MOST_ANSWERS);
-        let mut machine = Machine {
+        let clients = Clients::new(alloc, keys, room, facts);
+        let mut machine = Machine::over(alloc, clients, labels, pages, program, options, now);
+        match machine.follow_all(form, peers) {
+            Ok(()) => Ok(machine),
+            Err(error) => Err(error),
+        }
+    }
+
+    /// A host over these clients, which follows nobody.
+    fn over(
+        alloc: Global,
+        clients: Clients<T>,
+        labels: Labels,
+        pages: Pages,
+        program: Vec<u8>,
+        options: Options,
+        now: u64,
+    ) -> Machine<T>
+        ensures { result.clients ≡ clients }
+    {
+        let most_records = clients.room().replica().program().form().most_records();
+        let mut notes = VecDeque::new(alloc);
+        let _is_told = notes.push_back(Note::Started {
+            clients: options.most_clients,
+            wanted: options.wanted,
+            has_tokens: pages.has_tokens(),
+        });
+        Machine {
             alloc,
-            clients: Clients::new(alloc, keys, room, facts),
+            clients,
             conns: Conns::new(alloc),
             watchers: Watchers::new(alloc),
-            steps: Steps::new(alloc, labels),
+            steps: Steps::new(alloc),
+            labels: Some(labels),
             pages,
             peers: Vec::new(alloc),
             are_peers_due: true,
-            notes: VecDeque::new(alloc),
+            notes,
             stopwatch: Stopwatch::new(alloc),
             timers: Timers::new(now),
             counted: NOTHING_COUNTED,
@@ -166,42 +203,44 @@ impl<T: Timeline> Machine<T> {
             ending: None,
             over: None,
             is_over: false,
-        };
-        machine.tell(Note::Started {
-            clients: options.most_clients,
-            wanted: options.wanted,
-            has_tokens,
-        });
-        match machine.follow_all(form, peers) {
-            Ok(()) => Ok(machine),
-            Err(error) => Err(error),
         }
     }
 
     /// Follows these peers.
-    fn follow_all(&mut self, form: Form, peers: Vec<PeerAt>) -> Result<(), OutOfMemory> {
+    fn follow_all(&mut self, form: Form, peers: Vec<PeerAt>) -> Result<(), OutOfMemory>
+        ensures { Moved (facts_of T.settled T.refused T.floor T.SLACK) self.old.clients self.new.clients }
+    {
         for peer in peers {
-            let Ok(number) = u16::try_from(self.peers.len()) else {
-                return Err(OutOfMemory);
-            };
-            let PeerAt { address, token } = peer;
-            let program = Vec::from_slice(self.alloc, &self.program)?;
-            let peer = Peer::new(self.alloc, address, form, program, token, self.now);
-            self.conns.reserve()?;
-            let Ok(who) = self.clients.come_as(Rights::All) else {
-                return Err(OutOfMemory);
-            };
-            if !self.conns.place(who, Some(number), self.now) {
-                return Err(OutOfMemory);
-            }
-            self.watchers.place(who)?;
-            self.peers.push(Followed::new(peer, who))?;
+            self.follow(form, peer)?;
         }
         Ok(())
     }
 
+    /// Follows a peer: a client with all rights brings its lines.
+    fn follow(&mut self, form: Form, peer: PeerAt) -> Result<(), OutOfMemory>
+        ensures { Moved (facts_of T.settled T.refused T.floor T.SLACK) self.old.clients self.new.clients }
+    {
+        let Ok(number) = u16::try_from(self.peers.len()) else {
+            return Err(OutOfMemory);
+        };
+        let PeerAt { address, token } = peer;
+        let program = Vec::from_slice(self.alloc, &self.program)?;
+        let peer = Peer::new(self.alloc, address, form, program, token, self.now);
+        self.conns.reserve()?;
+        let Some(who) = moves::come_as(&mut self.clients, Rights::All) else {
+            return Err(OutOfMemory);
+        };
+        if !self.give_place(who, Some(number)) {
+            return Err(OutOfMemory);
+        }
+        self.peers.push(Followed::new(peer, who))?;
+        Ok(())
+    }
+
     /// An operator is to be told this.
-    pub(crate) fn tell(&mut self, note: Note) {
+    pub(crate) fn tell(&mut self, note: Note)
+        ensures { self.new.clients ≡ self.old.clients }
+    {
         if self.level.tells(&note) && self.notes.len() < MOST_NOTES {
             let _ = self.notes.push_back(note);
         }

@@ -1,12 +1,15 @@
 //! The operator's channel: the words that it has, what each of them does, and the line that answers one. Where a host has
 //! such a channel its lines come here whole, one after another, and each has one answer.
 ghost use Rattle.std.specs.Prelude.{◌≡◌, ◌↔◌, IfErr, IfOk, IsTrue};
+ghost use Rattle.warp_replica.specs.Answered.{facts_of};
+ghost use Rattle.warp_machine.specs.Moving.{Moved, clients_in};
 ghost use Rattle.warp_machine.specs.Operating.{IsNoWord, news_level, note_level, tells, word_line};
 
-use crate::conns::Want;
+use crate::conn::Want;
 use crate::machine::Machine;
-use std::fmt;
+use crate::token_text::{NoTokens, read_tokens};
 use warp_clients::ClientId;
+use warp_events::{Operated, OperatorAnswer, Status, Undone};
 use warp_hub::{PeerEvent, Rights, Tokens};
 use warp_line::Timeline;
 use warp_record::is_keyword;
@@ -34,74 +37,6 @@ pub enum OperatorWord {
     Tokens,
     /// `log-level L`: what is told on standard error.
     LogLevel(Level),
-}
-
-/// Why a line of an operator is not done. All is as before.
-#[derive(Clone, Copy, Debug, PartialEq, Eq)]
-pub enum Undone {
-    /// It is none of the words.
-    NoWord,
-    /// It names no level.
-    NoLevel,
-    /// The host began without a file of tokens.
-    NoTokens,
-    /// The file of tokens can't be read.
-    UnreadTokens,
-    /// Others may read or write the file of tokens.
-    ShownTokens,
-    /// This line of the file of tokens, from 1, is refused.
-    BadTokens(u64),
-    /// No memory was to be had.
-    NoMemory,
-}
-
-/// How a host is.
-#[derive(Clone, Copy, Debug, PartialEq, Eq)]
-pub struct Status {
-    /// How many clients are there.
-    pub clients: u32,
-    /// How many there may be.
-    pub most_clients: u32,
-    /// How many records the log has.
-    pub records: u32,
-    /// How many it takes.
-    pub most_records: u32,
-    /// How many of them are on the disk; none where there is no journal.
-    pub synced: u32,
-    /// How many peers were found and are followed.
-    pub peers_found: u64,
-    /// How many peers there are.
-    pub peers: u64,
-    /// The horizon's time, as it was when all was executed last.
-    pub time: u64,
-    /// The horizon's microstep.
-    pub microstep: u64,
-    /// Whether the log takes no further record.
-    pub is_full: bool,
-    /// Whether the journal can't be written now.
-    pub is_failing: bool,
-}
-
-/// What answers a line of an operator. As text it is a line, without its line feed.
-#[derive(Clone, Copy, Debug, PartialEq, Eq)]
-pub enum OperatorAnswer {
-    /// It is done.
-    Done,
-    /// The host is so.
-    Is(Status),
-    /// It is done, and so many connections are closed for it.
-    Closed(u32),
-    /// It is not done.
-    No(Undone),
-}
-
-/// What came of a line of an operator.
-#[derive(Clone, Copy, Debug, PartialEq, Eq)]
-pub enum Operated {
-    /// This is its answer.
-    Answered(OperatorAnswer),
-    /// The file of tokens is to be read; what that has is handed to `Machine::tokens_read`, which gives the answer.
-    ReadTokens,
 }
 
 impl Level {
@@ -196,27 +131,49 @@ fn is_lost(had: Option<Rights>, has: Option<Rights>) -> bool {
 }
 
 impl<T: Timeline> Machine<T> {
-    /// Does what a line of the operator says, which comes without its line feed. `JournalSeen` is as it was told last
+    /// Does what a line of the operator says, which comes without its line feed. What the system knows is as it was told last
     /// (`seen`).
-    pub fn operator(&mut self, line: &[u8], now: u64) -> Operated {
-        self.now = now;
+    pub fn operator(&mut self, line: &[u8], now: u64) -> Operated
+        ensures { Moved (facts_of T.settled T.refused T.floor T.SLACK)
+            (clients_in self.old) (clients_in self.new) }
+    {
         match read_operator(line) {
-            Ok(OperatorWord::Stop) => self.end_in_order(Note::Stopped, now),
-            Ok(OperatorWord::Status) => return Operated::Answered(OperatorAnswer::Is(
-                self.status(),
-            )),
-            Ok(OperatorWord::Tokens) if self.pages.has_tokens() => return Operated::ReadTokens,
-            Ok(OperatorWord::Tokens) => {
-                return Operated::Answered(OperatorAnswer::No(Undone::NoTokens));
-            }
-            Ok(OperatorWord::LogLevel(level)) => self.level = level,
-            Err(why) => return Operated::Answered(OperatorAnswer::No(why)),
+            Ok(word) => self.obey(word, now),
+            Err(why) => Operated::Answered(OperatorAnswer::No(why)),
         }
-        Operated::Answered(OperatorAnswer::Done)
+    }
+
+    /// Does what a word of the operator says.
+    fn obey(&mut self, word: OperatorWord, now: u64) -> Operated
+        ensures { Moved (facts_of T.settled T.refused T.floor T.SLACK) self.old.clients self.new.clients }
+    {
+        match word {
+            OperatorWord::Stop => {
+                self.end_in_order(Note::Stopped, now);
+                Operated::Answered(OperatorAnswer::Done)
+            }
+            OperatorWord::Status => Operated::Answered(OperatorAnswer::Is(self.status())),
+            OperatorWord::Tokens => self.ask_for_tokens(),
+            OperatorWord::LogLevel(level) => {
+                self.level = level;
+                Operated::Answered(OperatorAnswer::Done)
+            }
+        }
+    }
+
+    /// The file of tokens is to be read, where there is one.
+    fn ask_for_tokens(&self) -> Operated {
+        if self.pages.has_tokens() {
+            Operated::ReadTokens
+        } else {
+            Operated::Answered(OperatorAnswer::No(Undone::NoTokens))
+        }
     }
 
     /// How the host is.
-    fn status(&mut self) -> Status {
+    fn status(&mut self) -> Status
+        ensures { self.new.clients ≡ self.old.clients }
+    {
         self.note_horizon();
         let records = self.len();
         Status {
@@ -234,29 +191,51 @@ impl<T: Timeline> Machine<T> {
         }
     }
 
-    /// The file of tokens was read again, for lines and for HTTP, or it could not be. Who has said a token that is there no
-    /// more, or by which other things may be sent now, is closed.
-    pub fn tokens_read(
-        &mut self,
-        read: Result<(Tokens, Tokens), Undone>,
-        now: u64,
-    ) -> OperatorAnswer {
+    /// The file of tokens was read again, and has this text, or it could not be. Who has said a token that is there no more,
+    /// or by which other things may be sent now, is closed.
+    pub fn tokens_read(&mut self, text: Result<&[u8], Undone>, now: u64) -> OperatorAnswer {
         self.now = now;
-        let (lines, pages) = match read {
-            Ok(read) => read,
+        let text = match text {
+            Ok(text) => text,
             Err(why) => return OperatorAnswer::No(why),
         };
+        // One for lines, one for HTTP.
+        let lines = match self.tokens_in(text) {
+            Ok(lines) => lines,
+            Err(why) => return OperatorAnswer::No(why),
+        };
+        match self.tokens_in(text) {
+            Ok(pages) => OperatorAnswer::Closed(self.take_tokens(lines, pages)),
+            Err(why) => OperatorAnswer::No(why),
+        }
+    }
+
+    /// The tokens in this text of their file.
+    fn tokens_in(&self, text: &[u8]) -> Result<Tokens, Undone> {
+        let program = self.clients.room().replica().program();
+        match read_tokens(self.alloc, program.form(), program.origins(), text) {
+            Ok(tokens) => Ok(tokens),
+            Err(NoTokens::Bad(bad)) => Err(Undone::BadTokens(bad)),
+            Err(NoTokens::NoMemory) => Err(Undone::NoMemory),
+        }
+    }
+
+    /// These are the tokens from now on, for lines and for HTTP. How many lose theirs, who are closed.
+    fn take_tokens(&mut self, lines: Tokens, pages: Tokens) -> u32 {
         let closed = self.close_who_lost(&lines);
         self.clients.take_tokens(lines);
         self.pages.take_tokens(pages);
-        OperatorAnswer::Closed(closed)
+        closed
     }
 
     /// Closes who loses its token by these. How many these are.
-    fn close_who_lost(&mut self, tokens: &Tokens) -> u32 {
+    fn close_who_lost(&mut self, tokens: &Tokens) -> u32
+        ensures { self.new.clients ≡ self.old.clients }
+    {
         let mut closed = 0u32;
         for at in 0..self.conns.places() {
-            if let Some(who) = self.conns.who(at) {
+            let who = self.conns.who(at);
+            if let Some(who) = who {
                 if self.has_lost(who, tokens) {
                     self.conns.want(who, Want::Close);
                     closed = closed.saturating_add(1);
@@ -269,74 +248,14 @@ impl<T: Timeline> Machine<T> {
     /// Whether a client loses its token by these: the last that it said by a line, or else the one that its request for
     /// WebSocket brought.
     fn has_lost(&self, who: ClientId, tokens: &Tokens) -> bool {
-        let brought = match self.conns.get(who) {
-            Some(conn) => conn.visit.token(),
+        let brought = match self.conns.visit(who) {
+            Some(visit) => visit.token(),
             None => None,
         };
         let said = self.clients.token(who);
         match said.or(brought) {
-            Some(digest) => {
-                is_lost(self.pages.find_digest(&digest), tokens.find_digest(&digest))
-            }
+            Some(digest) => is_lost(self.pages.find_digest(&digest), tokens.find_digest(&digest)),
             None => false,
-        }
-    }
-}
-
-/// How a flag is told.
-fn digit(flag: bool) -> u8 {
-    if flag { 1 } else { 0 }
-}
-
-impl fmt::Display for Status {
-    fn fmt<W: fmt::Write>(&self, f: &mut fmt::Formatter<W>) -> fmt::Result {
-        let Status {
-            clients,
-            most_clients,
-            records,
-            most_records,
-            synced,
-            ..
-        } = *self;
-        write!(
-            f,
-            "clients {clients} {most_clients} records {records} {most_records} synced {synced}"
-        )?;
-        let Status {
-            peers_found,
-            peers,
-            time,
-            microstep,
-            ..
-        } = *self;
-        write!(f, " peers {peers_found} {peers} horizon {time} {microstep}")?;
-        let full = digit(self.is_full);
-        let failing = digit(self.is_failing);
-        write!(f, " full {full} failing {failing}")
-    }
-}
-
-impl fmt::Display for Undone {
-    fn fmt<W: fmt::Write>(&self, f: &mut fmt::Formatter<W>) -> fmt::Result {
-        match *self {
-            Undone::NoWord => f.write_str("word"),
-            Undone::NoLevel => f.write_str("level: error, warn or info"),
-            Undone::NoTokens => f.write_str("tokens: the host began without --tokens"),
-            Undone::UnreadTokens => f.write_str("tokens: their file can't be read"),
-            Undone::ShownTokens => f.write_str("tokens: others may read or write their file"),
-            Undone::BadTokens(line) => write!(f, "tokens: line {line} of their file is refused"),
-            Undone::NoMemory => f.write_str("memory"),
-        }
-    }
-}
-
-impl fmt::Display for OperatorAnswer {
-    fn fmt<W: fmt::Write>(&self, f: &mut fmt::Formatter<W>) -> fmt::Result {
-        match *self {
-            OperatorAnswer::Done => f.write_str("ok"),
-            OperatorAnswer::Is(status) => write!(f, "ok {status}"),
-            OperatorAnswer::Closed(count) => write!(f, "ok closed {count}"),
-            OperatorAnswer::No(why) => write!(f, "no {why}"),
         }
     }
 }

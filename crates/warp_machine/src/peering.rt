@@ -1,8 +1,13 @@
 //! The peers of a host: what comes of their connections, their lines for the room, and its answers to these.
 
+ghost use Rattle.std.specs.Prelude.{◌≡◌};
+ghost use Rattle.warp_replica.specs.Answered.{facts_of};
+ghost use Rattle.warp_machine.specs.Moving.{Moved, clients_in};
+
 use crate::action::Action;
 use crate::machine::Machine;
-use warp_clients::ClientId;
+use crate::moves;
+use warp_clients::{ClientId, Clients};
 use warp_line::Timeline;
 use warp_service::{Note, Peer, PeerAction};
 
@@ -46,6 +51,22 @@ impl Followed {
         self.is_due = true;
         self.is_wanting = true;
     }
+
+    /// Lines of it were given on, or answers taken, or not.
+    fn went_on(&mut self, is_due: bool) {
+        self.is_due = is_due;
+        self.is_wanting = true;
+    }
+
+    /// What it wants next, if it may want something.
+    fn next(&mut self, now: u64) -> Option<PeerAction> {
+        if !self.is_wanting {
+            return None;
+        }
+        let action = self.peer.next(now);
+        self.is_wanting = action.is_some();
+        action
+    }
 }
 
 impl<T: Timeline> Machine<T> {
@@ -58,15 +79,21 @@ impl<T: Timeline> Machine<T> {
     }
 
     /// A peer's address was sought (`PeerAction::Seek`), and found or not.
-    pub fn found(&mut self, peer: u16, is_found: bool, now: u64) {
-        if let Some(followed) = self.due_peer(peer, now) {
+    pub fn found(&mut self, peer: u16, is_found: bool, now: u64)
+        ensures { clients_in self.new ≡ clients_in self.old }
+    {
+        self.note_peer_at(peer, now);
+        if let Some(followed) = self.peers.get_mut(peer as usize) {
             followed.peer.found(is_found, now);
         }
     }
 
     /// The connection of this number to a peer is there.
-    pub fn connected(&mut self, peer: u16, number: u64, now: u64) {
-        if let Some(followed) = self.due_peer(peer, now) {
+    pub fn connected(&mut self, peer: u16, number: u64, now: u64)
+        ensures { clients_in self.new ≡ clients_in self.old }
+    {
+        self.note_peer_at(peer, now);
+        if let Some(followed) = self.peers.get_mut(peer as usize) {
             followed.peer.connected(number, now);
         }
     }
@@ -80,15 +107,21 @@ impl<T: Timeline> Machine<T> {
     }
 
     /// Bytes of the connection of this number to a peer came, at most 16,384 at once and only where they are wanted.
-    pub fn peer_bytes(&mut self, peer: u16, number: u64, bytes: &[u8], now: u64) {
-        if let Some(followed) = self.due_peer(peer, now) {
+    pub fn peer_bytes(&mut self, peer: u16, number: u64, bytes: &[u8], now: u64)
+        ensures { clients_in self.new ≡ clients_in self.old }
+    {
+        self.note_peer_at(peer, now);
+        if let Some(followed) = self.peers.get_mut(peer as usize) {
             followed.peer.bytes(number, bytes, now);
         }
     }
 
     /// The connection of this number to a peer has ended, or could not be made.
-    pub fn peer_ended(&mut self, peer: u16, number: u64, now: u64) {
-        if let Some(followed) = self.due_peer(peer, now) {
+    pub fn peer_ended(&mut self, peer: u16, number: u64, now: u64)
+        ensures { clients_in self.new ≡ clients_in self.old }
+    {
+        self.note_peer_at(peer, now);
+        if let Some(followed) = self.peers.get_mut(peer as usize) {
             followed.peer.ended(number, now);
         }
     }
@@ -102,43 +135,37 @@ impl<T: Timeline> Machine<T> {
     }
 
     /// So many of these were sent.
-    pub fn peer_sent(&mut self, peer: u16, number: u64, count: usize, now: u64) {
-        if let Some(followed) = self.due_peer(peer, now) {
+    pub fn peer_sent(&mut self, peer: u16, number: u64, count: usize, now: u64)
+        ensures { clients_in self.new ≡ clients_in self.old }
+    {
+        self.note_peer_at(peer, now);
+        if let Some(followed) = self.peers.get_mut(peer as usize) {
             followed.peer.sent(number, count);
         }
     }
 
-    /// The peer of this number, of which something came.
-    fn due_peer(&mut self, peer: u16, now: u64) -> Option<&mut Followed> {
+    /// Something came now of the peer of this number.
+    fn note_peer_at(&mut self, peer: u16, now: u64)
+        ensures { self.new.clients ≡ self.old.clients }
+    {
         self.now = now;
+        self.note_peer(peer);
+    }
+
+    /// There is something to do for the peer of this number.
+    pub(crate) fn note_peer(&mut self, peer: u16)
+        ensures { self.new.clients ≡ self.old.clients }
+    {
         self.are_peers_due = true;
-        let followed = self.peers.get_mut(peer as usize)?;
-        followed.note();
-        Some(followed)
-    }
-
-    /// There is something to do for the peer whose client this is.
-    pub(crate) fn note_peer(&mut self, who: ClientId) {
-        let Some(conn) = self.conns.get(who) else {
-            return;
-        };
-        let Some(number) = conn.peer else {
-            return;
-        };
-        let now = self.now;
-        let _due = self.due_peer(number, now);
-    }
-
-    /// Whether a client brings the lines of a peer.
-    pub(crate) fn is_peer(&self, who: ClientId) -> bool {
-        match self.conns.get(who) {
-            Some(conn) => conn.peer.is_some(),
-            None => false,
+        if let Some(followed) = self.peers.get_mut(peer as usize) {
+            followed.note();
         }
     }
 
     /// The journal can be written again: peers go on.
-    pub(crate) fn wake_peers(&mut self) {
+    pub(crate) fn wake_peers(&mut self)
+        ensures { self.new.clients ≡ self.old.clients }
+    {
         self.are_peers_due = true;
         for followed in self.peers.iter_mut() {
             followed.note();
@@ -148,7 +175,9 @@ impl<T: Timeline> Machine<T> {
 
     /// Gives lines of peers to their clients, and takes the answers. Their records are not refused while the journal can't
     /// be written: they wait.
-    pub(crate) fn go_on_with_peers(&mut self) {
+    pub(crate) fn go_on_with_peers(&mut self)
+        ensures { Moved (facts_of T.settled T.refused T.floor T.SLACK) self.old.clients self.new.clients }
+    {
         if self.is_failing || !self.are_peers_due {
             return;
         }
@@ -158,17 +187,25 @@ impl<T: Timeline> Machine<T> {
     }
 
     /// Gives lines of a peer to its client, and takes the answers, where there are any.
-    fn go_on(&mut self, at: usize) {
+    fn go_on(&mut self, at: usize)
+        ensures { Moved (facts_of T.settled T.refused T.floor T.SLACK) self.old.clients self.new.clients }
+    {
         for _ in 0..MOST_TIMES {
             if !self.is_due(at) {
                 return;
             }
-            let fed = self.feed_from(at);
-            let heard = self.answer_peer(at);
-            if let Some(followed) = self.peers.get_mut(at) {
-                followed.is_due = fed || heard;
-                followed.is_wanting = true;
-            }
+            self.go_on_once(at);
+        }
+    }
+
+    /// Gives lines of a peer to its client, and takes the answers, once.
+    fn go_on_once(&mut self, at: usize)
+        ensures { Moved (facts_of T.settled T.refused T.floor T.SLACK) self.old.clients self.new.clients }
+    {
+        let fed = self.feed_from(at);
+        let heard = self.answer_peer(at);
+        if let Some(followed) = self.peers.get_mut(at) {
+            followed.went_on(fed || heard);
         }
     }
 
@@ -181,39 +218,33 @@ impl<T: Timeline> Machine<T> {
     }
 
     /// Gives lines of a peer to its client; whether it took any.
-    fn feed_from(&mut self, at: usize) -> bool {
+    fn feed_from(&mut self, at: usize) -> bool
+        ensures { Moved (facts_of T.settled T.refused T.floor T.SLACK) self.old.clients self.new.clients }
+    {
         let Some(followed) = self.peers.get_mut(at) else {
             return false;
         };
-        let who = followed.who;
-        let count = match self.clients.hear(who, followed.peer.lines()) {
-            Ok(count) => count,
-            Err(_) => 0,
-        };
-        if count == 0 {
+        if !feed(&mut self.clients, followed, self.now) {
             return false;
         }
-        followed.peer.took(count, self.now);
-        self.conns.talk(who);
+        self.conns.talk(followed.who);
         true
     }
 
     /// Has a peer hear the room's answers; whether there were any.
-    fn answer_peer(&mut self, at: usize) -> bool {
+    fn answer_peer(&mut self, at: usize) -> bool
+        ensures { Moved (facts_of T.settled T.refused T.floor T.SLACK) self.old.clients self.new.clients }
+    {
         let Some(followed) = self.peers.get_mut(at) else {
             return false;
         };
-        let who = followed.who;
-        let count = followed.peer.answers(self.clients.output(who), self.now);
-        if count == 0 {
-            return false;
-        }
-        self.clients.written(who, count);
-        true
+        answer(&mut self.clients, followed, self.now)
     }
 
     /// What a peer wants next, if one does.
-    pub(crate) fn next_of_peers(&mut self) -> Option<Action> {
+    pub(crate) fn next_of_peers(&mut self) -> Option<Action>
+        ensures { self.new.clients ≡ self.old.clients }
+    {
         if self.is_failing || !self.are_peers_due {
             return None;
         }
@@ -232,38 +263,24 @@ impl<T: Timeline> Machine<T> {
     }
 
     /// What this peer wants next.
-    fn next_of(&mut self, at: usize) -> Option<Action> {
-        let followed = self.peers.get_mut(at)?;
-        if !followed.is_wanting {
-            return None;
-        }
+    fn next_of(&mut self, at: usize) -> Option<Action>
+        ensures { self.new.clients ≡ self.old.clients }
+    {
         let number = u16::try_from(at).ok()?;
-        let Some(action) = followed.peer.next(self.now) else {
-            followed.is_wanting = false;
-            return None;
-        };
-        Some(match action {
-            PeerAction::Tell(news, left_out) => Action::Tell(Note::Peer {
-                peer: u32::from(number),
-                news,
-                left_out,
-            }),
-            PeerAction::Close(_)
-            | PeerAction::Seek
-            | PeerAction::Connect(_)
-            | PeerAction::Send(_)
-            | PeerAction::Hear(_) => Action::Peer(number, action),
-        })
+        let followed = self.peers.get_mut(at)?;
+        let action = followed.next(self.now)?;
+        Some(action_of(number, action))
     }
 
     /// Does what the moment brings for peers.
-    pub(crate) fn tick_peers(&mut self) {
+    pub(crate) fn tick_peers(&mut self)
+        ensures { self.new.clients ≡ self.old.clients }
+    {
         if self.is_failing {
             return;
         }
-        let now = self.now;
         for followed in self.peers.iter_mut() {
-            self.are_peers_due |= followed.tick(now);
+            self.are_peers_due |= followed.tick(self.now);
         }
     }
 
@@ -289,5 +306,47 @@ impl<T: Timeline> Machine<T> {
             }
         }
         count
+    }
+}
+
+/// Gives lines of a peer to its client; whether it took any.
+fn feed<T: Timeline>(clients: &mut Clients<T>, followed: &mut Followed, now: u64) -> bool
+    ensures { Moved (facts_of T.settled T.refused T.floor T.SLACK) clients.old clients.new }
+{
+    let Some(count) = moves::hear(clients, followed.who, followed.peer.lines()) else {
+        return false;
+    };
+    if count == 0 {
+        return false;
+    }
+    followed.peer.took(count, now);
+    true
+}
+
+/// Has a peer hear the room's answers; whether there were any.
+fn answer<T: Timeline>(clients: &mut Clients<T>, followed: &mut Followed, now: u64) -> bool
+    ensures { Moved (facts_of T.settled T.refused T.floor T.SLACK) clients.old clients.new }
+{
+    let count = followed.peer.answers(clients.output(followed.who), now);
+    if count == 0 {
+        return false;
+    }
+    moves::written(clients, followed.who, count);
+    true
+}
+
+/// What the peer of this number wants, as an action of the host.
+fn action_of(number: u16, action: PeerAction) -> Action {
+    match action {
+        PeerAction::Tell(news, left_out) => Action::Tell(Note::Peer {
+            peer: u32::from(number),
+            news,
+            left_out,
+        }),
+        PeerAction::Close(_)
+        | PeerAction::Seek
+        | PeerAction::Connect(_)
+        | PeerAction::Send(_)
+        | PeerAction::Hear(_) => Action::Peer(number, action),
     }
 }

@@ -1,14 +1,19 @@
-//! What is pushed to who watches.
+//! What is told for who watches, and pushed to them.
+
+ghost use Rattle.std.specs.Prelude.{◌≡◌};
+ghost use Rattle.warp_replica.specs.Answered.{facts_of};
+ghost use Rattle.warp_machine.specs.Moving.{Moved};
 
 use crate::calls::MOST_UNREAD;
 use crate::machine::Machine;
-use crate::marks::{Given, News};
-use crate::page::{FROZEN, FROZEN_LEN, GONE_SLOW, MARK, behind_lines, marked, skipped_line};
-use crate::watchers::{Answered, Asked, MOST_TOLD};
-use warp_clients::ClientId;
+use crate::moves;
+use warp_clients::{ClientId, Watched};
 use warp_hub::Subject;
 use warp_line::Timeline;
-use warp_watch::{Question, Told};
+use warp_push::{
+    Answered, Asked, FROZEN, GONE_SLOW, Given, MOST_TOLD, News, Pushing, behind_lines, skipped_line,
+};
+use warp_watch::Question;
 
 /// So many words that begin or end a watch are noted at once at most.
 const MOST_WATCHED: u32 = 1_048_576;
@@ -17,23 +22,34 @@ const MOST_WATCHED: u32 = 1_048_576;
 const MOST_PAGES: u32 = 8;
 
 /// More bytes do not wait for a client that is pushed to.
-const MOST_PUSHED: usize = 1 << 20;
+const MOST_PUSHED: usize = 1_048_576;
 
 impl<T: Timeline> Machine<T> {
     /// Notes who watches what from now on. Without memory a client is told nothing more.
-    pub(crate) fn note_watched(&mut self) {
+    pub(crate) fn note_watched(&mut self)
+        ensures { Moved (facts_of T.settled T.refused T.floor T.SLACK) self.old.clients self.new.clients }
+    {
         for _ in 0..MOST_WATCHED {
             let Some(watched) = self.clients.watched() else {
                 return;
             };
-            if !self.watchers.note(watched.who, &watched.word) {
-                self.clients.stop(watched.who);
-            }
+            self.note_one(&watched);
+        }
+    }
+
+    /// Notes what a client watches from now on. Without memory it is told nothing more.
+    fn note_one(&mut self, watched: &Watched)
+        ensures { Moved (facts_of T.settled T.refused T.floor T.SLACK) self.old.clients self.new.clients }
+    {
+        if !self.watchers.note(watched.who, &watched.word) {
+            moves::stop(&mut self.clients, watched.who);
         }
     }
 
     /// Tells what is due for who watches, where all is executed, and pushes what may be told.
-    pub(crate) fn tell_watchers(&mut self) {
+    pub(crate) fn tell_watchers(&mut self)
+        ensures { Moved (facts_of T.settled T.refused T.floor T.SLACK) self.old.clients self.new.clients }
+    {
         self.hand_told();
         for _ in 0..MOST_PAGES {
             if !self.tell_some() {
@@ -45,7 +61,9 @@ impl<T: Timeline> Machine<T> {
     }
 
     /// Tells what is due for who watches, as far as it may wait; whether anything was.
-    fn tell_some(&mut self) -> bool {
+    fn tell_some(&mut self) -> bool
+        ensures { Moved (facts_of T.settled T.refused T.floor T.SLACK) self.old.clients self.new.clients }
+    {
         for count in 0..MOST_TOLD {
             if !self.clients.room().is_settled() || !self.watchers.has_room() {
                 return count > 0;
@@ -53,14 +71,22 @@ impl<T: Timeline> Machine<T> {
             let Some(asked) = self.next_asked() else {
                 return count > 0;
             };
-            match self.clients.tell(asked.question) {
-                Ok(told) => self.watchers.keep(asked, told),
-                Err(_) => {
-                    self.watchers.missed(asked);
-                    return false;
-                }
+            if !self.tell_one(asked) {
+                return false;
             }
         }
+        true
+    }
+
+    /// Tells what is asked; whether it was told. Where not, it is asked again.
+    fn tell_one(&mut self, asked: Asked) -> bool
+        ensures { Moved (facts_of T.settled T.refused T.floor T.SLACK) self.old.clients self.new.clients }
+    {
+        let Some(told) = moves::tell(&mut self.clients, &asked) else {
+            self.watchers.missed(&asked);
+            return false;
+        };
+        self.watchers.keep(asked, told);
         true
     }
 
@@ -70,7 +96,9 @@ impl<T: Timeline> Machine<T> {
     }
 
     /// What is to be told next for who watches, which is on its way then.
-    fn next_asked(&mut self) -> Option<Asked> {
+    fn next_asked(&mut self) -> Option<Asked>
+        ensures { self.new.clients ≡ self.old.clients }
+    {
         // Also records count whose client has gone.
         let newest = self.newest().max(self.clients.room().len().min(self.limit));
         if let Some(question) = self.watchers.due(newest) {
@@ -79,6 +107,13 @@ impl<T: Timeline> Machine<T> {
                 question,
             });
         }
+        self.next_own()
+    }
+
+    /// The next page of its own that a client wants, which is on its way then.
+    fn next_own(&mut self) -> Option<Asked>
+        ensures { self.new.clients ≡ self.old.clients }
+    {
         for _ in 0..self.watchers.wanting() {
             let who = self.watchers.next_wanting()?;
             if let Some(question) = self.own_page(who) {
@@ -92,150 +127,94 @@ impl<T: Timeline> Machine<T> {
     }
 
     /// The page of its own that a client wants, where it has read most of what it was pushed.
-    fn own_page(&mut self, who: ClientId) -> Option<Question> {
+    fn own_page(&mut self, who: ClientId) -> Option<Question>
+        ensures { self.new.clients ≡ self.old.clients }
+    {
         if self.clients.is_stopped(who) || self.clients.unread(who) >= MOST_UNREAD {
             return None;
         }
-        let question = self.watchers.next_page(who)?;
-        if self.watchers.wants_page(who) {
-            let _ = self.watchers.want(who.key);
-        }
-        Some(question)
+        self.watchers.own_page(who)
     }
 
     /// Pushes what was told, as far as it may be.
-    fn hand_told(&mut self) {
+    fn hand_told(&mut self)
+        ensures { Moved (facts_of T.settled T.refused T.floor T.SLACK) self.old.clients self.new.clients }
+    {
         for _ in 0..MOST_TOLD {
             let Some(answered) = self.watchers.next_within(self.limit) else {
                 return;
             };
-            let Answered { asked, told } = answered;
-            self.counted.newest = self.counted.newest.max(told.len);
-            match asked.question {
-                Question::Log { from, until } => {
-                    self.push_page(asked, Subject::Log, from, until, &told);
-                }
-                Question::Released { from, until } => {
-                    self.push_page(asked, Subject::Released, from, until, &told);
-                }
-                Question::Vars => self.push_value(asked, Subject::Vars, &told),
-                Question::Horizon => self.push_value(asked, Subject::Horizon, &told),
-                Question::Breaches => self.push_value(asked, Subject::Breach, &told),
-                _ => {}
-            }
+            self.push_told(&answered);
         }
     }
 
-    /// Pushes a page, to one watcher or to all.
-    fn push_page(&mut self, asked: Asked, subject: Subject, from: u32, until: u32, told: &Told) {
-        let end = if told.frozen {
-            told.text.len().saturating_sub(FROZEN_LEN)
-        } else {
-            told.text.len()
-        };
-        let Ok(text) = marked(self.alloc, MARK, &told.text[..end]) else {
-            self.watchers.missed(asked);
+    /// Pushes what was told.
+    fn push_told(&mut self, answered: &Answered)
+        ensures { Moved (facts_of T.settled T.refused T.floor T.SLACK) self.old.clients self.new.clients }
+    {
+        self.counted.newest = self.counted.newest.max(answered.len());
+        let Some(pushing) = self.watchers.pushing(answered) else {
             return;
         };
-        let news = News::Page {
-            from,
-            next: told.next,
-            frozen: told.frozen,
-            is_own: asked.who.is_some(),
-        };
-        match asked.who {
+        self.push_news(&pushing);
+        self.watchers.pushed(&pushing);
+    }
+
+    /// Pushes news of a thing, to one watcher or to all.
+    pub(crate) fn push_news(&mut self, pushing: &Pushing)
+        ensures { Moved (facts_of T.settled T.refused T.floor T.SLACK) self.old.clients self.new.clients }
+    {
+        match pushing.who {
             Some(who) => {
-                self.watchers
-                    .tail_mut(subject)
-                    .learn(from, until, told.next, told.frozen, told.len);
-                let _watches = self.push_to(who, subject, news, told.len, &text);
-                let _ = self.watchers.want(who.key);
+                let _watches = self.push_to(who, pushing);
             }
-            None => self.push_page_to_all(subject, news, from, told, &text),
+            None => self.push_to_all(pushing),
         }
     }
 
-    /// Pushes a page to all that watch; each asks for its own where they do not keep up.
-    fn push_page_to_all(
-        &mut self,
-        subject: Subject,
-        news: News,
-        from: u32,
-        told: &Told,
-        text: &[u8],
-    ) {
-        let each = self
-            .watchers
-            .tail_mut(subject)
-            .told(from, told.next, told.frozen, told.len);
-        self.push_to_all(subject, news, told.len, text);
-        if each {
-            self.watchers.want_all(subject);
-        }
-    }
-
-    /// Pushes the newest value of a thing to all that were not pushed it.
-    fn push_value(&mut self, asked: Asked, subject: Subject, told: &Told) {
-        let alloc = self.alloc;
-        let latest = self.watchers.latest_mut(subject);
-        let Ok(is_due) = latest.told(told.len, &told.text) else {
-            return;
-        };
-        if !is_due {
-            return;
-        }
-        let news = News::Value(latest.version);
-        match Vec::from_slice(alloc, &latest.text) {
-            Ok(text) => self.push_to_all(subject, news, told.len, &text),
-            Err(_) => {
-                latest.want(true);
-                self.watchers.missed(asked);
-            }
-        }
-    }
-
-    /// Pushes news of a thing, with this text, to all that watch it; who watches it no longer leaves its list.
-    pub(crate) fn push_to_all(&mut self, subject: Subject, news: News, len: u32, text: &[u8]) {
+    /// Pushes news of a thing to all that watch it; who watches it no longer leaves its list.
+    fn push_to_all(&mut self, pushing: &Pushing)
+        ensures { Moved (facts_of T.settled T.refused T.floor T.SLACK) self.old.clients self.new.clients }
+    {
         // From the last on: what stands in the place of one that left was looked at.
-        let count = self.watchers.count(subject);
+        let count = self.watchers.count(pushing.subject);
         for behind in 0..count {
-            self.push_at(subject, count - behind - 1, news, len, text);
+            self.push_at(count - behind - 1, pushing);
         }
     }
 
     /// Pushes news to who stands at this place of the list of watchers, or takes it off.
-    fn push_at(&mut self, subject: Subject, at: usize, news: News, len: u32, text: &[u8]) {
-        let Some(key) = self.watchers.key_at(subject, at) else {
-            return;
-        };
-        let watches = match self.watchers.who(key) {
-            Some(who) => self.push_to(who, subject, news, len, text),
+    fn push_at(&mut self, at: usize, pushing: &Pushing)
+        ensures { Moved (facts_of T.settled T.refused T.floor T.SLACK) self.old.clients self.new.clients }
+    {
+        let watches = match self.watchers.watcher(pushing.subject, at) {
+            Some(who) => self.push_to(who, pushing),
             None => false,
         };
         if !watches {
-            self.watchers.drop_at(subject, at);
+            self.watchers.drop_at(pushing.subject, at);
         }
     }
 
     /// Pushes news of a thing to a client, as far as it was not pushed them. Whether it watches it.
-    fn push_to(
-        &mut self,
-        who: ClientId,
-        subject: Subject,
-        news: News,
-        len: u32,
-        text: &[u8],
-    ) -> bool {
+    fn push_to(&mut self, who: ClientId, pushing: &Pushing) -> bool
+        ensures { Moved (facts_of T.settled T.refused T.floor T.SLACK) self.old.clients self.new.clients }
+    {
         let unread = self.clients.unread(who);
-        let Some(given) = self.watchers.take(who, subject, news, unread) else {
+        let given = self
+            .watchers
+            .take(who, pushing.subject, pushing.news, unread);
+        let Some(given) = given else {
             return false;
         };
-        self.push_given(who, given, len, text);
+        self.push_given(who, given, pushing.len, &pushing.text);
         true
     }
 
     /// Pushes to a client what it was given of news with this text.
-    fn push_given(&mut self, who: ClientId, given: Given, len: u32, text: &[u8]) {
+    fn push_given(&mut self, who: ClientId, given: Given, len: u32, text: &[u8])
+        ensures { Moved (facts_of T.settled T.refused T.floor T.SLACK) self.old.clients self.new.clients }
+    {
         if given.skipped > 0 {
             self.push(who, len, &skipped_line(given.skipped));
         }
@@ -248,19 +227,30 @@ impl<T: Timeline> Machine<T> {
     }
 
     /// Pushes whole lines to a client. Where too many bytes wait behind it, it is told so at last, and nothing more.
-    fn push(&mut self, who: ClientId, len: u32, text: &[u8]) {
-        if text.is_empty() || !self.clients.push(who, len, text) {
+    fn push(&mut self, who: ClientId, len: u32, text: &[u8])
+        ensures { Moved (facts_of T.settled T.refused T.floor T.SLACK) self.old.clients self.new.clients }
+    {
+        if text.is_empty() || !moves::push(&mut self.clients, who, len, text) {
             return;
         }
         if self.clients.unread(who) > MOST_PUSHED {
-            self.counted.slow = self.counted.slow.saturating_add(1);
-            let _ = self.clients.push(who, 0, GONE_SLOW);
-            self.clients.stop(who);
+            self.give_up(who);
         }
     }
 
+    /// Too many bytes wait for a client: it is told so at last, and nothing more.
+    fn give_up(&mut self, who: ClientId)
+        ensures { Moved (facts_of T.settled T.refused T.floor T.SLACK) self.old.clients self.new.clients }
+    {
+        self.counted.slow = self.counted.slow.saturating_add(1);
+        let _is_pushed = moves::push(&mut self.clients, who, 0, GONE_SLOW);
+        moves::stop(&mut self.clients, who);
+    }
+
     /// Pushes how many lines of steps were left out for a client, where some were and not much waits for it.
-    pub(crate) fn push_skipped(&mut self, who: ClientId) {
+    pub(crate) fn push_skipped(&mut self, who: ClientId)
+        ensures { Moved (facts_of T.settled T.refused T.floor T.SLACK) self.old.clients self.new.clients }
+    {
         if !self.watchers.are_steps_watched() {
             return;
         }
@@ -268,6 +258,10 @@ impl<T: Timeline> Machine<T> {
             left_out: 0,
             count: 0,
         };
-        let _watches = self.push_to(who, Subject::Steps, nothing, 0, b"");
+        let unread = self.clients.unread(who);
+        let Some(given) = self.watchers.take(who, Subject::Steps, nothing, unread) else {
+            return;
+        };
+        self.push_given(who, given, 0, b"");
     }
 }

@@ -1,9 +1,10 @@
 //! What a host is made of.
 
 use std::hash::RandomState;
+pub use warp_events::JournalSeen;
 use warp_hub::{Facts, PeerToken};
 use warp_line::Timeline;
-use warp_pages::Pages;
+use warp_pages::Texts;
 use warp_replica::Replica;
 use warp_tag::Tag;
 use warp_trace::Labels;
@@ -46,22 +47,9 @@ pub struct Start<T: Timeline> {
     /// Who watches steps is told them by these names.
     pub labels: Labels,
     /// What is answered over HTTP.
-    pub pages: Pages,
+    pub texts: Texts,
     /// The peers, at most 64.
     pub peers: Vec<PeerAt>,
     /// What it is asked to do.
     pub options: Options,
-}
-
-/// What the system knows that is measured.
-#[derive(Clone, Copy)]
-pub struct JournalSeen {
-    /// How many records are on the disk; none where there is no journal.
-    pub records: u32,
-    /// How many are written and not on the disk.
-    pub unsynced: u32,
-    /// For how many milliseconds the oldest of these waits.
-    pub waits: u64,
-    /// How many connections were refused for want of a descriptor, in all.
-    pub undescribed: u64,
 }

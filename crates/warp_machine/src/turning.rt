@@ -1,10 +1,14 @@
 //! A turn: lines are heard, the room works, and what may be told is.
+ghost use Rattle.std.specs.Prelude.{◌≡◌};
+ghost use Rattle.warp_replica.specs.Answered.{facts_of};
+ghost use Rattle.warp_machine.specs.Moving.{Moved, clients_in};
 
-use crate::conns::Want;
+use crate::conn::Want;
+use crate::conns::Conns;
 use crate::machine::Machine;
+use crate::moves;
 use crate::start::LastDone;
-use std::alloc::Global;
-use warp_clients::{Answers, ClientId, Kind, Worked};
+use warp_clients::{Answers, ClientId, Clients, Kind, Worked};
 use warp_line::Timeline;
 
 /// So many lines are answered at once at most, before the steps that they want are made.
@@ -25,19 +29,37 @@ const MOST_CHANGES: u32 = 65_536;
 impl<T: Timeline> Machine<T> {
     /// Hears lines of clients, has the room work for a while, and hands on what may be told. Whether there is more to do
     /// at once.
-    pub fn turn<P: LastDone<T>>(&mut self, now: u64) -> bool {
+    pub fn turn<P: LastDone<T>>(&mut self, now: u64) -> bool
+        ensures { Moved (facts_of T.settled T.refused T.floor T.SLACK)
+            (clients_in self.old) (clients_in self.new) }
+    {
         if self.is_over {
             return false;
         }
+        self.begin_turn(now);
+        let before = self.clients.counts().replies;
+        let worked = self.work::<P>();
+        self.hand_on(worked);
+        self.end_turn(worked, before)
+    }
+
+    /// Hears lines of clients.
+    fn begin_turn(&mut self, now: u64)
+        ensures { Moved (facts_of T.settled T.refused T.floor T.SLACK) self.old.clients self.new.clients }
+    {
         self.time_answers();
         self.now = now;
         self.has_more = false;
         self.hear_all();
         self.note_watched();
         self.stopwatch.begin(self.clients.counts().lines, now);
-        let before = self.clients.counts().replies;
-        let worked = self.work::<P>();
-        self.clients.hand();
+    }
+
+    /// Hands on what may be told, behind the room's work.
+    fn hand_on(&mut self, worked: Worked)
+        ensures { Moved (facts_of T.settled T.refused T.floor T.SLACK) self.old.clients self.new.clients }
+    {
+        moves::hand(&mut self.clients);
         self.note_watched();
         self.hand_steps();
         if self.is_to_tell(worked) {
@@ -45,6 +67,12 @@ impl<T: Timeline> Machine<T> {
         }
         self.go_on_with_peers();
         self.look_at_changes();
+    }
+
+    /// Notes what is left to do behind a turn before which so many replies were told. Whether there is more at once.
+    fn end_turn(&mut self, worked: Worked, before: u64) -> bool
+        ensures { self.new.clients ≡ self.old.clients }
+    {
         let replies = self.clients.counts().replies;
         self.is_untimed = true;
         self.has_more |= match worked {
@@ -58,7 +86,9 @@ impl<T: Timeline> Machine<T> {
 
     /// Whether who watches is told now: nothing more comes at once, or that was waited for a few times. So what comes in many
     /// lines is told in few pages.
-    fn is_to_tell(&mut self, worked: Worked) -> bool {
+    fn is_to_tell(&mut self, worked: Worked) -> bool
+        ensures { self.new.clients ≡ self.old.clients }
+    {
         let comes_more = self.conns.talking() > 0 || worked == Worked::More;
         if comes_more && self.untold < MOST_UNTOLD {
             self.untold += 1;
@@ -69,7 +99,9 @@ impl<T: Timeline> Machine<T> {
     }
 
     /// The answers of the last turn count as told by the time of the last call.
-    pub(crate) fn time_answers(&mut self) {
+    pub(crate) fn time_answers(&mut self)
+        ensures { self.new.clients ≡ self.old.clients }
+    {
         if self.is_untimed {
             self.is_untimed = false;
             self.stopwatch.end(self.clients.counts().replies, self.now);
@@ -82,17 +114,22 @@ impl<T: Timeline> Machine<T> {
     }
 
     /// Asks each client what it says that may say something.
-    fn hear_all(&mut self) {
+    fn hear_all(&mut self)
+        ensures { Moved (facts_of T.settled T.refused T.floor T.SLACK) self.old.clients self.new.clients }
+    {
         for _ in 0..self.conns.talking() {
-            if let Some(who) = self.conns.next_talking() {
-                self.say(who);
-            }
+            let Some(who) = self.conns.next_talking() else {
+                return;
+            };
+            self.say(who);
         }
     }
 
     /// Asks a client what it says, and does it.
-    pub(crate) fn say(&mut self, who: ClientId) {
-        if self.is_failing && self.is_peer(who) {
+    pub(crate) fn say(&mut self, who: ClientId)
+        ensures { Moved (facts_of T.settled T.refused T.floor T.SLACK) self.old.clients self.new.clients }
+    {
+        if self.is_failing && self.conns.peer(who).is_some() {
             // Its records are not refused: they wait.
             return;
         }
@@ -103,118 +140,96 @@ impl<T: Timeline> Machine<T> {
             self.conns.talk(who);
         }
         self.refresh(who);
-        if !wanted && self.wants(who) {
-            self.conns.want(who, Want::Hear);
-        }
+        self.want_hear(who, wanted);
     }
 
     /// Asks a client's connection what it says, and answers what it asks over HTTP. Whether there may be more.
-    fn ask(&mut self, who: ClientId) -> bool {
-        let Some(conn) = self.conns.get(who) else {
+    fn ask(&mut self, who: ClientId) -> bool
+        ensures { Moved (facts_of T.settled T.refused T.floor T.SLACK) self.old.clients self.new.clients }
+    {
+        let Some(visit) = self.conns.visit(who) else {
             return false;
         };
-        self.pages.enter(conn.visit);
+        self.pages.enter(visit);
         let before = self.pages.answered();
-        let more = self.clients.say(who, &mut self.pages);
+        let more = moves::say(&mut self.clients, who, &mut self.pages);
         let has_answered = self.pages.answered() != before;
-        let visit = self.pages.visit();
-        let now = self.now;
-        if let Some(conn) = self.conns.get_mut(who) {
-            conn.visit = visit;
-            if has_answered {
-                conn.answered = now;
-            }
-        }
+        self.conns
+            .note_visit(who, self.pages.visit(), has_answered, self.now);
         more
     }
 
     /// Gives a client the bytes that wait for it, as far as it has room, and tells it where no more come. Whether it took
     /// some, and may take more.
-    fn feed(&mut self, who: ClientId) -> bool {
-        let Some(conn) = self.conns.get(who) else {
+    fn feed(&mut self, who: ClientId) -> bool
+        ensures { Moved (facts_of T.settled T.refused T.floor T.SLACK) self.old.clients self.new.clients }
+    {
+        let Some(count) = hear_rest(&mut self.clients, &self.conns, who) else {
             return false;
         };
-        let ends = conn.is_deaf && !conn.is_deaf_told;
-        let count = match self.clients.hear(who, &conn.rest) {
-            Ok(count) => count,
-            // Its connection is lost.
-            Err(_) => return false,
-        };
-        let Some(conn) = self.conns.get_mut(who) else {
-            return false;
-        };
-        drop_front(self.alloc, &mut conn.rest, count);
-        if !conn.rest.is_empty() {
+        if self.conns.drop_rest(who, count) {
             return count > 0;
         }
-        if ends {
-            conn.is_deaf_told = true;
-            let ceases = conn.ceases;
+        if let Some(ceases) = self.conns.take_end(who) {
             self.end_client(who, ceases);
         }
         false
     }
 
     /// A client has said all, or nothing more of it is heard since the host ends.
-    fn end_client(&mut self, who: ClientId, ceases: bool) {
+    fn end_client(&mut self, who: ClientId, ceases: bool)
+        ensures { Moved (facts_of T.settled T.refused T.floor T.SLACK) self.old.clients self.new.clients }
+    {
         if ceases {
-            self.clients.cease(who);
+            moves::cease(&mut self.clients, who);
         } else {
-            self.clients.end(who);
+            moves::end(&mut self.clients, who);
         }
     }
 
     /// Looks at a client of whose connection something may be wanted now.
-    pub(crate) fn refresh(&mut self, who: ClientId) {
-        let Some(conn) = self.conns.get(who) else {
+    pub(crate) fn refresh(&mut self, who: ClientId)
+        ensures { self.new.clients ≡ self.old.clients }
+    {
+        if !self.conns.has(who) {
             return;
-        };
-        if conn.peer.is_some() {
-            self.note_peer(who);
+        }
+        if let Some(number) = self.conns.peer(who) {
+            self.note_peer(number);
             return;
         }
         if self.clients.is_over(who) {
-            self.part(who);
+            let is_lost = self.clients.is_lost(who);
+            self.conns.part(who, is_lost, self.now);
             return;
         }
-        if !conn.is_writing && !self.clients.output(who).is_empty() {
+        if !self.conns.is_writing(who) && !self.clients.output(who).is_empty() {
             self.conns.want(who, Want::Write);
-            if let Some(conn) = self.conns.get_mut(who) {
-                conn.is_writing = true;
-            }
-        }
-    }
-
-    /// A client is told nothing more, and all is written; or its connection is lost.
-    fn part(&mut self, who: ClientId) {
-        let is_lost = self.clients.is_lost(who);
-        let now = self.now;
-        let Some(conn) = self.conns.get_mut(who) else {
-            return;
-        };
-        if is_lost || conn.has_ended {
-            self.conns.want(who, Want::Close);
-            return;
-        }
-        if conn.lingers.is_none() {
-            conn.lingers = Some(now);
-            conn.rest.clear();
-            self.conns.want(who, Want::End);
+            self.conns.set_writing(who, true);
         }
     }
 
     /// Makes ready what is to be written to clients, and goes on with those that may say something.
-    pub(crate) fn look_at_changes(&mut self) {
+    pub(crate) fn look_at_changes(&mut self)
+        ensures { Moved (facts_of T.settled T.refused T.floor T.SLACK) self.old.clients self.new.clients }
+    {
         for _ in 0..MOST_CHANGES {
-            let Some(who) = self.clients.changed() else {
+            let Some(who) = moves::changed(&mut self.clients) else {
                 return;
             };
-            self.refresh(who);
-            if self.may_talk(who) {
-                self.conns.talk(who);
-            }
+            self.look_at_change(who);
         }
         self.has_more = true;
+    }
+
+    /// Makes ready what is to be written to a client, and goes on with it if it may say something.
+    fn look_at_change(&mut self, who: ClientId)
+        ensures { self.new.clients ≡ self.old.clients }
+    {
+        self.refresh(who);
+        if self.may_talk(who) {
+            self.conns.talk(who);
+        }
     }
 
     /// Whether a client may say something: bytes of it wait, or nobody knows.
@@ -223,52 +238,51 @@ impl<T: Timeline> Machine<T> {
             return false;
         }
         let is_line = self.clients.kind(who) == Kind::Lines;
-        !is_line || !self.clients.wants(who) || self.has_rest(who)
-    }
-
-    /// Whether bytes of a client wait for which it had no room, or no more come.
-    fn has_rest(&self, who: ClientId) -> bool {
-        match self.conns.get(who) {
-            Some(conn) => conn.is_deaf || !conn.rest.is_empty(),
-            None => false,
-        }
+        !is_line || !self.clients.wants(who) || self.conns.is_to_go_on(who)
     }
 
     /// Has the room work.
-    fn work<P: LastDone<T>>(&mut self) -> Worked {
+    fn work<P: LastDone<T>>(&mut self) -> Worked
+        ensures { Moved (facts_of T.settled T.refused T.floor T.SLACK) self.old.clients self.new.clients }
+    {
         if !self.watchers.are_steps_watched() {
             self.steps.forget();
             return self.work_some();
         }
-        if !self.steps.is_noting() {
-            // What was taken before is executed before steps are noted.
-            if !self.execute() {
-                return self.lack();
-            }
-            if !self.clients.room().is_settled() {
-                return Worked::More;
-            }
-            self.steps.begin();
+        if self.steps.is_noting() {
+            return self.work_noted::<P>();
         }
+        // What was taken before is executed before steps are noted.
+        if !self.execute() {
+            return self.lack();
+        }
+        if !self.clients.room().is_settled() {
+            return Worked::More;
+        }
+        self.steps.begin();
         self.work_noted::<P>()
     }
 
     /// Makes steps and answers lines for a while.
-    fn work_some(&mut self) -> Worked {
+    fn work_some(&mut self) -> Worked
+        ensures { Moved (facts_of T.settled T.refused T.floor T.SLACK) self.old.clients self.new.clients }
+    {
         for _ in 0..MOST_ROUNDS {
             if !self.execute() {
                 return self.lack();
             }
-            match self.clients.answer_some(MOST_LINES) {
-                Worked::More => {}
-                worked => return self.executed(worked),
+            let worked = moves::answer_some(&mut self.clients, MOST_LINES);
+            if worked != Worked::More {
+                return self.executed(worked);
             }
         }
         self.executed(Worked::More)
     }
 
     /// Behind the last answers: what they brought is executed before they are told.
-    fn executed(&mut self, worked: Worked) -> Worked {
+    fn executed(&mut self, worked: Worked) -> Worked
+        ensures { Moved (facts_of T.settled T.refused T.floor T.SLACK) self.old.clients self.new.clients }
+    {
         if !self.execute() {
             return Worked::NoMemory;
         }
@@ -276,21 +290,28 @@ impl<T: Timeline> Machine<T> {
     }
 
     /// Makes steps, and shows what is released where all are made. `false` where there was no memory.
-    pub(crate) fn execute(&mut self) -> bool {
-        if let Worked::NoMemory = self.clients.work(0, MOST_STEPS) {
+    pub(crate) fn execute(&mut self) -> bool
+        ensures { Moved (facts_of T.settled T.refused T.floor T.SLACK) self.old.clients self.new.clients }
+    {
+        if moves::work(&mut self.clients, 0, MOST_STEPS) == Worked::NoMemory {
             return false;
         }
-        !self.clients.room().is_settled() || self.show()
+        if !self.clients.room().is_settled() {
+            return true;
+        }
+        self.show()
     }
 
     /// Shows what is released, of a room whose steps are all made, where its log has grown. `false` where there was no
     /// memory.
-    pub(crate) fn show(&mut self) -> bool {
+    pub(crate) fn show(&mut self) -> bool
+        ensures { Moved (facts_of T.settled T.refused T.floor T.SLACK) self.old.clients self.new.clients }
+    {
         let len = self.clients.room().len();
         if self.shown == Some(len) {
             return true;
         }
-        if self.clients.show_released().is_err() {
+        if !moves::show_released(&mut self.clients) {
             return false;
         }
         self.shown = Some(len);
@@ -298,17 +319,20 @@ impl<T: Timeline> Machine<T> {
     }
 
     /// There was no memory to make steps: a line that waits for them is refused.
-    pub(crate) fn lack(&mut self) -> Worked {
-        let _ = self.clients.work(1, MOST_STEPS);
+    pub(crate) fn lack(&mut self) -> Worked
+        ensures { Moved (facts_of T.settled T.refused T.floor T.SLACK) self.old.clients self.new.clients }
+    {
+        let _worked = moves::work(&mut self.clients, 1, MOST_STEPS);
         Worked::NoMemory
     }
 }
 
-/// Lets go of the first so many of these bytes; where none are left, of their memory.
-fn drop_front(alloc: Global, bytes: &mut Vec<u8>, count: usize) {
-    if count >= bytes.len() {
-        *bytes = Vec::new(alloc);
-        return;
-    }
-    let _ = bytes.drain(..count);
+/// A client hears the bytes that wait for it, as far as it has room: how many. `None` where its connection is lost.
+fn hear_rest<T: Timeline>(clients: &mut Clients<T>, conns: &Conns, who: ClientId) -> Option<usize>
+    ensures { Moved (facts_of T.settled T.refused T.floor T.SLACK) clients.old clients.new }
+{
+    let Some(rest) = conns.rest(who) else {
+        return None;
+    };
+    moves::hear(clients, who, rest)
 }

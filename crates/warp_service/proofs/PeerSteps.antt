@@ -65,9 +65,8 @@ goes_line f f' line h h' event (inl hands) = record {
   runs = (f', ((line, hands.1), hands.3, hands.4), refl);
   hands = hands.2 ∙ ap (λ l. h ++ l) (sym (append-nil (record_spelling hands.0 ++ 10 ∷ [])));
 }
-goes_line f f' line h h' event (inr (inl none)) =
+goes_line f f' line h h' event (inr none) =
     goes_silent Spoke f f' h h' refl (λ due. ((none.1 due).0, (none.1 due).1)) none.0
-goes_line f f' line h h' event (inr (inr there)) = goes_silent Spoke f f' h h' refl (λ _. (there.5, there.6)) there.2
 
 within : (b : Bool) (line : List ℕ) → b ≡ true → (if b then Whole line else Long) ≡ Whole line
 within true line h = refl

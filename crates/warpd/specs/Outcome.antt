@@ -34,8 +34,8 @@ use Rattle.warp_world.specs.Play.{PlaysSchedule}
 use Rattle.warp_lanes.specs.Engine.{most_lanes}
 use Rattle.warp_host.specs.declared.hosting.HostFault.{HostFault}
 use Rattle.warp_host.specs.declared.hosting.HostFault.TheVariants as host_fault
-use Rattle.warp_host.specs.declared.journal_faults.OpenFault.{OpenFault}
-use Rattle.warp_host.specs.declared.journal_faults.OpenFault.TheVariants as open_fault
+use Rattle.warp_disk.specs.declared.journal_faults.OpenFault.{OpenFault}
+use Rattle.warp_disk.specs.declared.journal_faults.OpenFault.TheVariants as open_fault
 use Rattle.warp_words.specs.Words.{Task, RunProgram, PlaySchedule, ServeProgram, CheckProgram, TraceProgram, HostProgram, SeeJournal, task_in, warpd_command}
 use Rattle.warp_words.specs.declared.command_line.CheckOptions.{CheckOptions}
 use Rattle.warp_session.specs.declared.door.ServeFault.{ServeFault}

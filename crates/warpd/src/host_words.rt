@@ -12,11 +12,10 @@ use std::alloc::{AllocError, Global};
 use std::fs::Files;
 use std::io::Eprint;
 use std::net::{Ipv4Addr, SocketAddr};
-use warp_host::{
-    DEFAULT_CLIENTS, LONGEST_SAID, MOST_PEERS, PeerAt, SyncWhen, is_silent, may_listen, tell_line,
-    token_text,
-};
+use warp_disk::SyncWhen;
+use warp_host::{DEFAULT_CLIENTS, MOST_PEERS, may_listen, tell_line, token_text};
 use warp_hub::PeerToken;
+use warp_machine::{LONGEST_SAID, PeerAt, is_silent};
 use warp_words::HostJob;
 
 /// The port that is listened on where none is given.

@@ -1,27 +1,27 @@
 //! Hosting a program.
-ghost use Rattle.std.specs.Prelude.{◌≡◌, IfErr, IfOk, MatchBool, OnErr, string_bytes};
+ghost use Rattle.std.specs.Prelude.{◌≡◌, ℕ, IfErr, IfOk, List, MatchBool, OnErr, string_bytes};
 ghost use Rattle.warpd.specs.Outcome.{EndsHosting, Hosts, HostsAt, HostsPlanned, IsPrinted, KeepsFromHosting, host_line};
 
 use crate::host_program::{HostedProgram, fingerprint_in, hosted_program, version_of};
 use crate::host_words::{HostPlan, TokenText, host_plan};
-use crate::outcome::{
-    Outcome, TokenFile, outcome_of_hosting, outcome_of_journal, outcome_of_tokens,
-};
+use crate::outcome::{Outcome, TokenFile, outcome_of_hosting, outcome_of_journal};
 use crate::service::Host;
 use crate::stepping::{LastRow, Stepping};
 use crate::streams::Streams;
-use crate::telling::tell_listen;
+use crate::telling::{tell_bad_tokens, tell_listen};
 use arrayvec::ArrayString;
 use mio::net::TcpListener;
 use std::alloc::{AllocError, Global};
+use std::hash::RandomState;
 use std::io::Eprint;
 use std::net::{self, IpAddr, Net, SocketAddr};
-use warp_host::{
-    FirstLines, Names, OpenJournal, Options, Served, SyncWhen, TokensAt, host, open_journal,
-};
+use warp_disk::{FirstLines, OpenJournal, SyncWhen, open_journal};
+use warp_host::{ChannelUse, HostFault, Outside, begin, clients_within, host};
 use warp_hub::{Facts, Tokens};
 use warp_journal::{first_line, old_first_line};
 use warp_line::Timeline;
+use warp_machine::{Drives, Machine, NoTokens, Options, PeerAt, Start, drive, read_tokens};
+use warp_pages::{Names, Texts};
 use warp_replica::Replica;
 use warp_session::{Sink, Source, write_all};
 use warp_step::Program;
@@ -31,25 +31,29 @@ use warp_words::HostJob;
 /// The version that an operator is told: what `--version` prints.
 const VERSION: &str = "1.2.0";
 
-/// All that a host needs before it listens.
+/// All that a host needs before it listens: what its machine begins with, and what it has of the system.
 #[derive(Drop)]
 struct Prepared<T: Timeline> {
     replica: Replica<T>,
     facts: Facts,
     labels: Labels,
-    options: Options,
+    peers: Vec<PeerAt>,
+    clients: u32,
+    tokens: Option<Tokens>,
     bytes: Vec<u8>,
     names_json: Vec<u8>,
     origins: Vec<String>,
     address: SocketAddr,
+    channel: ChannelUse,
+    journal: Option<OpenJournal>,
 }
 
-/// The tokens of clients, for lines and for HTTP, and where they are read again; none where there are none.
+/// The tokens of clients, for lines and for HTTP, and the path of their file; none where there are none.
 #[derive(Drop)]
 struct ClientTokens {
     lines: Option<Tokens>,
     pages: Option<Tokens>,
-    at: Option<TokensAt>,
+    path: Option<String>,
 }
 
 /// Hosts the program that the job names.
@@ -134,6 +138,26 @@ fn journal_of<P: Host, T: Timeline>(
     }
 }
 
+/// The tokens in the text of the file at this path, for this program. Which line is refused, and why, is told.
+fn tokens_in<X: Eprint>(
+    rt: &X,
+    alloc: Global,
+    program: &Program,
+    path: &str,
+    text: &[u8],
+) -> Result<Tokens, Outcome>
+    ensures { IfErr result KeepsFromHosting }
+{
+    match read_tokens(alloc, program.form(), program.origins(), text) {
+        Ok(tokens) => Ok(tokens),
+        Err(NoTokens::Bad(bad)) => {
+            tell_bad_tokens(rt, path, &bad);
+            Err(Outcome::BadTokens(TokenFile::Clients, u64::from(bad.line)))
+        }
+        Err(NoTokens::NoMemory) => Err(Outcome::Memory),
+    }
+}
+
 /// The tokens in the text of the file of tokens, if there is one, for this program.
 fn tokens_of<X: Eprint>(
     rt: &X,
@@ -147,22 +171,16 @@ fn tokens_of<X: Eprint>(
         return Ok(ClientTokens {
             lines: None,
             pages: None,
-            at: None,
+            path: None,
         });
     };
-    let at = TokensAt {
-        path,
-        form: program.form(),
-        origins: program.origins(),
-    };
-    match at.both_in(rt, alloc, &text) {
-        Ok((lines, pages)) => Ok(ClientTokens {
-            lines: Some(lines),
-            pages: Some(pages),
-            at: Some(at),
-        }),
-        Err(fault) => Err(outcome_of_tokens(fault, TokenFile::Clients)),
-    }
+    let lines = tokens_in(rt, alloc, program, path.as_str(), &text)?;
+    let pages = tokens_in(rt, alloc, program, path.as_str(), &text)?;
+    Ok(ClientTokens {
+        lines: Some(lines),
+        pages: Some(pages),
+        path: Some(path),
+    })
 }
 
 /// All that a host needs of its program and its plan.
@@ -175,7 +193,7 @@ fn prepare<P: Host, T: Timeline>(
     ensures { IfErr result KeepsFromHosting }
 {
     let form = hosted.program.form();
-    let ClientTokens { lines, pages, at } = tokens_of(rt, alloc, &hosted.program, plan.tokens)?;
+    let ClientTokens { lines, pages, path } = tokens_of(rt, alloc, &hosted.program, plan.tokens)?;
     let HostedProgram {
         program,
         bytes,
@@ -203,20 +221,19 @@ fn prepare<P: Host, T: Timeline>(
             tokens: lines,
         },
         labels,
+        peers: plan.peers,
+        clients: plan.clients,
+        tokens: pages,
         bytes,
         names_json,
-        address: plan.address,
         origins: plan.origins,
-        options: Options {
-            version: VERSION,
-            clients: plan.clients,
-            tokens: pages,
-            peers: plan.peers,
+        address: plan.address,
+        channel: ChannelUse {
             until_input_ends: plan.until_input_ends,
             operator: plan.operator,
-            tokens_at: at,
-            journal,
+            tokens: path,
         },
+        journal,
     })
 }
 
@@ -267,60 +284,159 @@ fn host_at<
 >(rt: &P, alloc: Global, prepared: Prepared<T>, streams: &mut Streams<R, W>) -> Outcome
     ensures { HostsAt streams.old streams.new result }
 {
-    let listener = match TcpListener::bind(rt, prepared.address) {
-        Ok(listener) => listener,
-        Err(error) => {
-            tell_listen(rt, &prepared.address, &error);
-            return Outcome::Listen;
-        }
-    };
-    let Ok(address) = listener.local_addr() else {
-        return Outcome::Listen;
-    };
-    let Ok(text) = address.to_string(alloc) else {
-        return Outcome::Memory;
-    };
-    match say_host(alloc, text.as_str(), streams) {
-        Ok(true) => host_on::<P, T>(rt, alloc, prepared, listener, address),
-        Ok(false) => Outcome::Output,
-        Err(_) => Outcome::Memory,
+    match listened(rt, alloc, prepared.address, streams) {
+        Ok(place) => host_on::<P, T>(rt, alloc, prepared, place),
+        Err(outcome) => outcome,
     }
 }
 
-/// Hosts at this listener.
+/// Where a host listens.
+#[derive(Drop)]
+struct Place {
+    listener: TcpListener,
+    address: SocketAddr,
+}
+
+/// Listens at this address, and says so.
+fn listened<
+    P: Host + Net<Listener = net::TcpListener, Stream = net::TcpStream>,
+    R: Source,
+    W: Sink,
+>(rt: &P, alloc: Global, address: SocketAddr, streams: &mut Streams<R, W>) -> Result<Place, Outcome>
+    ensures ok { IfOk result (λ _. (text : List ℕ) × IsPrinted (host_line text) streams.old streams.new Outcome.Done) }
+    ensures err { IfErr result (λ outcome. HostsAt streams.old streams.new outcome) }
+{
+    let listener = match TcpListener::bind(rt, address) {
+        Ok(listener) => listener,
+        Err(error) => {
+            tell_listen(rt, &address, &error);
+            return Err(Outcome::Listen);
+        }
+    };
+    let Ok(address) = listener.local_addr() else {
+        return Err(Outcome::Listen);
+    };
+    let Ok(text) = address.to_string(alloc) else {
+        return Err(Outcome::Memory);
+    };
+    match say_host(alloc, text.as_str(), streams) {
+        Ok(true) => Ok(Place { listener, address }),
+        Ok(false) => Err(Outcome::Output),
+        Err(_) => Err(Outcome::Memory),
+    }
+}
+
+/// What a host begins with beside what is prepared: the name of its address, its keys and the time.
+#[derive(Drop)]
+struct Beginning {
+    own: ArrayString<64>,
+    keys: RandomState,
+    now: u64,
+}
+
+/// A host at this address begins now.
+fn beginning<P: Host>(rt: &P, alloc: Global, address: IpAddr) -> Result<Beginning, HostFault> {
+    let (keys, now) = begin(rt)?;
+    let own = own_name(alloc, address)?;
+    Ok(Beginning { own, keys, now })
+}
+
+/// Hosts here.
 fn host_on<
     P: Host + Net<Listener = net::TcpListener, Stream = net::TcpStream>,
     T: Stepping + Send + Drop,
->(
-    rt: &P,
-    alloc: Global,
-    prepared: Prepared<T>,
-    listener: TcpListener,
-    address: SocketAddr,
-) -> Outcome
+>(rt: &P, alloc: Global, prepared: Prepared<T>, place: Place) -> Outcome
     ensures { EndsHosting result }
 {
+    match beginning(rt, alloc, place.address.ip()) {
+        Ok(Beginning { own, keys, now }) => {
+            let (start, outside) = parted(prepared, place, own, keys);
+            outcome_of_hosting(driven(alloc, start, now, Shell { rt, alloc, outside }))
+        }
+        Err(fault) => outcome_of_hosting(Err(fault)),
+    }
+}
+
+/// The sockets of a host, which drive its machine.
+#[derive(Drop)]
+struct Shell<'a, P> {
+    rt: &'a P,
+    alloc: Global,
+    outside: Outside,
+}
+
+impl<'a, P: Host + Net<Listener = net::TcpListener, Stream = net::TcpStream>, T: Stepping> Drives<
+    T,
+    Result<(), HostFault>,
+> for Shell<'a, P> {
+    fn drive(self, machine: &mut Machine<T>) -> Result<(), HostFault> {
+        let Shell { rt, alloc, outside } = self;
+        host::<P, LastRow, Machine<T>>(rt, alloc, machine, outside)
+    }
+}
+
+/// Makes a machine that begins so, and has it driven.
+fn driven<T: Timeline, D: Drives<T, Result<(), HostFault>> + Drop>(
+    alloc: Global,
+    start: Start<T>,
+    now: u64,
+    driver: D,
+) -> Result<(), HostFault> {
+    match drive(alloc, start, now, driver) {
+        Ok(ended) => ended,
+        Err(_) => Err(HostFault::NoMemory),
+    }
+}
+
+/// What the machine begins with, and what the host has of the system.
+fn parted<T: Timeline>(
+    prepared: Prepared<T>,
+    place: Place,
+    own: ArrayString<64>,
+    keys: RandomState,
+) -> (Start<T>, Outside) {
+    let Place { listener, address } = place;
     let Prepared {
         replica,
         facts,
         labels,
-        options,
+        peers,
+        clients,
+        tokens,
         bytes,
         names_json,
         origins,
+        channel,
+        journal,
         ..
     } = prepared;
-    let Ok(own) = own_name(alloc, address.ip()) else {
-        return Outcome::Memory;
+    let outside = Outside {
+        listener,
+        peers: u16::try_from(peers.len()).unwrap_or(u16::MAX),
+        channel,
+        journal,
     };
-    let served = Served {
+    let options = Options {
+        version: VERSION,
+        most_clients: clients_within(clients, peers.len()),
+        wanted: clients,
+    };
+    let texts = Texts {
+        names: Names::new(own, address.port(), origins),
+        tokens,
         program: bytes,
         names_json,
-        names: Names::new(own, address.port(), origins),
     };
-    outcome_of_hosting(host::<P, T, LastRow>(
-        rt, alloc, replica, facts, labels, served, listener, options,
-    ))
+    let start = Start {
+        keys,
+        replica,
+        facts,
+        labels,
+        texts,
+        peers,
+        options,
+    };
+    (start, outside)
 }
 
 /// The address as a page names it: an IPv6 address stands in brackets.

@@ -9,7 +9,7 @@ use crate::streams::Streams;
 use std::alloc::{AllocError, Global};
 use std::fs::{File, Files, OpenOptions};
 use std::io::{Read, Seek};
-use warp_host::{
+use warp_disk::{
     FileFault, OpenFault, keep_aside, lock_file, lock_journal, refuse_special_file,
     tell_file_fault, words_of,
 };

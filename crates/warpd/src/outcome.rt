@@ -7,7 +7,8 @@ ghost use Rattle.warpd.specs.Outcome.{status_of, unread_words};
 
 use arrayvec::ArrayString;
 use itoa::Buffer;
-use warp_host::{HostFault, OpenFault, TokenFault};
+use warp_disk::OpenFault;
+use warp_host::{HostFault, TokenFault};
 use warp_session::{ServeFault, SessionEnd};
 use warp_trace::TraceFault;
 use warp_world::ScheduleFault;
@@ -278,14 +279,12 @@ pub fn outcome_of_journal(fault: OpenFault) -> Outcome
     }
 }
 
-/// How a run ends that has no tokens of this file, for this reason.
+/// How a run ends whose file of tokens is not read for this reason.
 pub fn outcome_of_tokens(fault: TokenFault, which: TokenFile) -> Outcome
     ensures { KeepsFromHosting result }
 {
     match fault {
         TokenFault::Unread => Outcome::NoTokens(which),
         TokenFault::Shown => Outcome::ShownTokens(which),
-        TokenFault::Line(line) => Outcome::BadTokens(which, line),
-        TokenFault::NoMemory => Outcome::Memory,
     }
 }

@@ -14,7 +14,7 @@ use std::random::RandomSource;
 use std::sync::Wait;
 use std::thread::{self, Threads};
 use std::time::{Clock, Duration};
-use warp_host::FreshFiles;
+use warp_disk::FreshFiles;
 use warp_lanes::Engine;
 use warp_line::Timeline;
 use warp_session::{Door, DoorFault, Open, Peer, PullEnd, ServeFault, serve_sessions};

@@ -3,6 +3,12 @@
 
 use std::io::{self, Eprint};
 use std::net::SocketAddr;
+use warp_machine::BadTokens;
+
+/// Tells what is wrong with the file of tokens at this path.
+pub(crate) fn tell_bad_tokens<X: Eprint>(rt: &X, path: &str, bad: &BadTokens) {
+    let _ = eprintln!(rt; "{path}: {bad}");
+}
 
 /// Tells what is wrong with the word behind an option.
 pub(crate) fn tell_word<X: Eprint>(rt: &X, option: &str, word: &str, why: &str) {

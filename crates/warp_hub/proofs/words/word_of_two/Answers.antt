@@ -1,5 +1,5 @@
 use Rattle.std.proofs.Common.{◌≡◌, codes}
-use Rattle.warp_hub.proofs.WordForms.{no_counts, no_reached, no_release, no_two, no_unwatch, no_watch}
+use Rattle.warp_hub.proofs.WordForms.{no_release}
 use Rattle.warp_hub.proofs.words.word_of_two.Goals as goal
 
 pub returns-in_err-read_index-clause-none : goal.returns-in_err-read_index-clause-none

@@ -1,6 +1,6 @@
 -- A journal that is damaged, or refused, keeps a host from beginning.
 use Rattle.std.proofs.Common.{inl, inr, refl}
-use Rattle.warp_host.specs.declared.journal_faults.OpenFault.TheVariants as open_fault
+use Rattle.warp_disk.specs.declared.journal_faults.OpenFault.TheVariants as open_fault
 use Rattle.warpd.proofs.outcome.outcome_of_journal.Goals as goal
 
 pub returns-in-Damaged-clause-keeps : goal.returns-in-Damaged-clause-keeps

@@ -1,5 +1,0 @@
-use Rattle.warp_hub.proofs.Pushed.{pushed_in_order}
-use Rattle.warp_hub.proofs.laws.pages_leave_nothing_out.Goals as goal
-
-pub returns : goal.returns
-returns c = pushed_in_order

@@ -1,0 +1,176 @@
+//! What a host does with its clients: each call moves them by steps of theirs.
+ghost use Rattle.std.specs.Prelude.{◌≡◌, ◌≤◌, IfSome, length, take};
+ghost use Rattle.warp_replica.specs.Answered.{facts_of};
+ghost use Rattle.warp_clients.specs.Client.{Heard};
+ghost use Rattle.warp_clients.specs.Steps as steps;
+ghost use Rattle.warp_machine.specs.Moving.{Moved, Stepped};
+
+use warp_clients::{ClientId, Clients, Visits, Worked};
+use warp_hub::Rights;
+use warp_line::Timeline;
+use warp_push::Asked;
+use warp_step::Meter;
+use warp_watch::Told;
+
+/// A client has come, with the rights that it has without a token. `None` where there are as many as may be, or there was
+/// no memory.
+pub(crate) fn come<T: Timeline>(clients: &mut Clients<T>) -> Option<ClientId>
+    ensures moved { Moved (facts_of T.settled T.refused T.floor T.SLACK) clients.old clients.new }
+    ensures joins { IfSome result (λ who. Stepped (facts_of T.settled T.refused T.floor T.SLACK) (steps.Joins who)
+        clients.old clients.new) }
+{
+    let Ok(who) = clients.come() else {
+        return None;
+    };
+    Some(who)
+}
+
+/// A client has come with these rights. `None` where there are as many as may be, or there was no memory.
+pub(crate) fn come_as<T: Timeline>(clients: &mut Clients<T>, rights: Rights) -> Option<ClientId>
+    ensures moved { Moved (facts_of T.settled T.refused T.floor T.SLACK) clients.old clients.new }
+    ensures enters { IfSome result (λ who. Stepped (facts_of T.settled T.refused T.floor T.SLACK) (steps.Enters who rights)
+        clients.old clients.new) }
+{
+    let Ok(who) = clients.come_as(rights) else {
+        return None;
+    };
+    Some(who)
+}
+
+/// A client is gone.
+pub(crate) fn leave<T: Timeline>(clients: &mut Clients<T>, who: ClientId)
+    ensures { Moved (facts_of T.settled T.refused T.floor T.SLACK) clients.old clients.new }
+{
+    let _was_there = clients.leave(who);
+}
+
+/// Hears the first of these bytes of a client for which there is room: how many. `None` where its connection is lost.
+pub(crate) fn hear<T: Timeline>(
+    clients: &mut Clients<T>,
+    who: ClientId,
+    bytes: &[u8],
+) -> Option<usize>
+    ensures moved { Moved (facts_of T.settled T.refused T.floor T.SLACK) clients.old clients.new }
+    ensures most { IfSome result (λ n. n ≤ length bytes.now) }
+    ensures heard { IfSome result (λ n. Stepped (facts_of T.settled T.refused T.floor T.SLACK)
+        (steps.Does who (Heard (take n bytes.now))) clients.old clients.new) }
+{
+    let Ok(count) = clients.hear(who, bytes) else {
+        return None;
+    };
+    Some(count)
+}
+
+/// No more bytes come of a client.
+pub(crate) fn end<T: Timeline>(clients: &mut Clients<T>, who: ClientId)
+    ensures { Moved (facts_of T.settled T.refused T.floor T.SLACK) clients.old clients.new }
+{
+    clients.end(who);
+}
+
+/// Nothing more of a client is heard once it has said the whole lines that came.
+pub(crate) fn cease<T: Timeline>(clients: &mut Clients<T>, who: ClientId)
+    ensures { clients.new ≡ clients.old }
+{
+    clients.cease(who);
+}
+
+/// A client's connection is asked what it says, and that is done. Whether there may be more.
+pub(crate) fn say<T: Timeline, S: Visits>(
+    clients: &mut Clients<T>,
+    who: ClientId,
+    service: &mut S,
+) -> bool
+    ensures { Moved (facts_of T.settled T.refused T.floor T.SLACK) clients.old clients.new }
+{
+    clients.say(who, service)
+}
+
+/// The room works: it executes at most so many steps, and then answers at most so many lines.
+pub(crate) fn work<T: Timeline>(
+    clients: &mut Clients<T>,
+    most_lines: u32,
+    most_steps: u64,
+) -> Worked
+    ensures { Moved (facts_of T.settled T.refused T.floor T.SLACK) clients.old clients.new }
+{
+    clients.work(most_lines, most_steps)
+}
+
+/// At most so many lines are answered that need no execution.
+pub(crate) fn answer_some<T: Timeline>(clients: &mut Clients<T>, most_lines: u32) -> Worked
+    ensures { Moved (facts_of T.settled T.refused T.floor T.SLACK) clients.old clients.new }
+{
+    clients.answer_some(most_lines)
+}
+
+/// What is not done is executed, by steps which this meter counts.
+pub(crate) fn execute<T: Timeline, M: Meter>(clients: &mut Clients<T>, meter: &mut M)
+    ensures { Moved (facts_of T.settled T.refused T.floor T.SLACK) clients.old clients.new }
+{
+    let _progress = clients.execute(u64::MAX, meter);
+}
+
+/// Shows what is released, where all is executed; whether it did.
+pub(crate) fn show_released<T: Timeline>(clients: &mut Clients<T>) -> bool
+    ensures { Moved (facts_of T.settled T.refused T.floor T.SLACK) clients.old clients.new }
+{
+    clients.show_released().is_ok()
+}
+
+/// Hands on what may be.
+pub(crate) fn hand<T: Timeline>(clients: &mut Clients<T>)
+    ensures { Moved (facts_of T.settled T.refused T.floor T.SLACK) clients.old clients.new }
+{
+    clients.hand();
+}
+
+/// Tells what is asked for who watches, where all is executed.
+pub(crate) fn tell<T: Timeline>(clients: &mut Clients<T>, asked: &Asked) -> Option<Told>
+    ensures { Moved (facts_of T.settled T.refused T.floor T.SLACK) clients.old clients.new }
+{
+    let Ok(told) = clients.tell(asked.question) else {
+        return None;
+    };
+    Some(told)
+}
+
+/// Whole lines that tell of a log of this length are pushed to a client; whether they were.
+pub(crate) fn push<T: Timeline>(
+    clients: &mut Clients<T>,
+    who: ClientId,
+    len: u32,
+    text: &[u8],
+) -> bool
+    ensures { Moved (facts_of T.settled T.refused T.floor T.SLACK) clients.old clients.new }
+{
+    clients.push(who, len, text)
+}
+
+/// A client is told nothing more.
+pub(crate) fn stop<T: Timeline>(clients: &mut Clients<T>, who: ClientId)
+    ensures { Moved (facts_of T.settled T.refused T.floor T.SLACK) clients.old clients.new }
+{
+    clients.stop(who);
+}
+
+/// A client's other end is asked for a sign of it.
+pub(crate) fn ping<T: Timeline>(clients: &mut Clients<T>, who: ClientId)
+    ensures { Moved (facts_of T.settled T.refused T.floor T.SLACK) clients.old clients.new }
+{
+    clients.ping(who);
+}
+
+/// The next client for which there is something to do.
+pub(crate) fn changed<T: Timeline>(clients: &mut Clients<T>) -> Option<ClientId>
+    ensures { Moved (facts_of T.settled T.refused T.floor T.SLACK) clients.old clients.new }
+{
+    clients.changed()
+}
+
+/// The first so many bytes of a client's output were written.
+pub(crate) fn written<T: Timeline>(clients: &mut Clients<T>, who: ClientId, count: usize)
+    ensures { Moved (facts_of T.settled T.refused T.floor T.SLACK) clients.old clients.new }
+{
+    clients.written(who, count);
+}

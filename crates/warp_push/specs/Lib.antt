@@ -1,0 +1,4 @@
+pub mod Marks
+pub mod Pages
+pub mod Seats
+pub mod Texts

@@ -1,0 +1,349 @@
+//! What a client watches, and how far it was pushed.
+ghost use Rattle.std.specs.Prelude.{◌≡◌, None, false};
+ghost use Rattle.warp_push.specs.Marks as marks;
+ghost use Rattle.warp_push.specs.Pages as pages;
+
+use warp_hub::{Subject, Watch};
+
+/// While so many bytes are to be written to a client, no lines of steps are pushed to it.
+const MOST_BEFORE_STEPS: usize = 262_144;
+
+/// What is pushed to who watches a thing.
+#[derive(Clone, Copy)]
+pub enum News {
+    /// A page: a line for each place from `from` on, below `next`; whether all is frozen behind it. It may be a watcher's
+    /// own.
+    Page {
+        /// The first place.
+        from: u32,
+        /// The first place behind it.
+        next: u32,
+        /// Whether all is frozen behind it.
+        frozen: bool,
+        /// Whether it was asked for one watcher.
+        is_own: bool,
+    },
+    /// The newest value, of this number.
+    Value(u64),
+    /// So many lines of steps, before which so many were left out.
+    Steps {
+        /// How many were left out before.
+        left_out: u64,
+        /// How many there are.
+        count: u64,
+    },
+}
+
+/// What a watcher gets of it, in this order.
+#[derive(Clone, Copy)]
+pub struct Given {
+    /// That so many lines of steps were left out, if some were.
+    pub skipped: u64,
+    /// The lines behind the first so many, if it gets lines.
+    pub behind: Option<u32>,
+    /// That all is frozen.
+    pub frozen: bool,
+}
+
+/// A watcher gets nothing.
+const NOTHING: Given = Given {
+    skipped: 0,
+    behind: None,
+    frozen: false,
+};
+
+/// A watcher gets the whole text.
+const ALL: Given = Given {
+    skipped: 0,
+    behind: Some(0),
+    frozen: false,
+};
+
+/// Where a watcher of pages goes on.
+#[derive(Clone, Copy)]
+pub(crate) struct Cursor {
+    /// The first place, or number, that was not pushed.
+    pub(crate) next: u32,
+    /// Nothing more is pushed: it was told that all is frozen.
+    pub(crate) is_done: bool,
+    /// A page of its own is on its way.
+    pub(crate) is_asked: bool,
+}
+
+impl Cursor {
+    /// Nothing was pushed yet.
+    fn new(next: u32, is_asked: bool) -> Cursor
+        ensures { result ≡ record { next = next; is_done = false; is_asked = is_asked } }
+    {
+        Cursor {
+            next,
+            is_done: false,
+            is_asked,
+        }
+    }
+
+    /// What a page with these places gives, which is then pushed: a page that begins behind the next place gives
+    /// nothing, and one that begins before it gives its later lines.
+    fn take(&mut self, from: u32, next: u32, frozen: bool) -> Given
+        ensures given { result ≡ pages.given_of (record { from = from; next = next; frozen = frozen }) self.old }
+        ensures after { self.new ≡ pages.cursor_behind (record { from = from; next = next; frozen = frozen }) self.old }
+    {
+        if self.is_done {
+            return NOTHING;
+        }
+        if self.next < from {
+            return NOTHING;
+        }
+        let mut behind = None;
+        if self.next < next {
+            behind = Some(self.next - from);
+            self.next = next;
+        }
+        self.is_done = frozen;
+        Given {
+            skipped: 0,
+            behind,
+            frozen,
+        }
+    }
+
+    /// What news give, if they are a page. One of its own is no longer on its way.
+    fn take_news(&mut self, news: News) -> Given
+        ensures given { result ≡ marks.given_by news self.old }
+        ensures after { self.new ≡ marks.cursor_by news self.old }
+    {
+        match news {
+            News::Page {
+                from,
+                next,
+                frozen,
+                is_own,
+            } => {
+                self.is_asked &= !is_own;
+                self.take(from, next, frozen)
+            }
+            News::Value(_) | News::Steps { .. } => NOTHING,
+        }
+    }
+}
+
+/// What a watcher of pages gets of news; none where nobody watches.
+fn take_page(cursor: &mut Option<Cursor>, news: News) -> Option<Given>
+    ensures given { result ≡ marks.page_given news cursor.old }
+    ensures after { cursor.new ≡ marks.page_behind news cursor.old }
+{
+    let Some(watch) = cursor else {
+        return None;
+    };
+    Some(watch.take_news(news))
+}
+
+/// What a watcher gets of a value that was pushed this one last.
+fn value_of(seen: &mut u64, news: News) -> Given
+    ensures given { result ≡ marks.value_given news seen.old }
+    ensures after { seen.new ≡ marks.value_behind news seen.old }
+{
+    let News::Value(version) = news else {
+        return NOTHING;
+    };
+    if *seen == version {
+        return NOTHING;
+    }
+    *seen = version;
+    ALL
+}
+
+/// The same; none where nobody watches.
+fn take_value(seen: &mut Option<u64>, news: News) -> Option<Given>
+    ensures given { result ≡ marks.latest_given news seen.old }
+    ensures after { seen.new ≡ marks.latest_behind news seen.old }
+{
+    let Some(seen) = seen else {
+        return None;
+    };
+    Some(value_of(seen, news))
+}
+
+/// What a watcher gets of lines of steps, for which so many were left out before.
+fn steps_of(left_out: &mut u64, news: News, unread: usize) -> Given {
+    let News::Steps {
+        left_out: before,
+        count,
+    } = news
+    else {
+        return NOTHING;
+    };
+    let skipped = left_out.saturating_add(before);
+    if unread >= MOST_BEFORE_STEPS {
+        *left_out = skipped.saturating_add(count);
+        return NOTHING;
+    }
+    *left_out = 0;
+    Given {
+        skipped,
+        behind: if count > 0 { Some(0) } else { None },
+        frozen: false,
+    }
+}
+
+/// The same; none where nobody watches.
+fn take_steps(left_out: &mut Option<u64>, news: News, unread: usize) -> Option<Given>
+    ensures { left_out.old ≡ None → result ≡ None }
+{
+    let Some(left_out) = left_out else {
+        return None;
+    };
+    Some(steps_of(left_out, news, unread))
+}
+
+/// Whether this is a watcher that was not pushed anything yet.
+fn is_unpushed(seen: Option<u64>) -> bool {
+    match seen {
+        Some(version) => version == 0,
+        None => false,
+    }
+}
+
+/// Whether a page is on its way for this watcher.
+fn is_asked(cursor: Option<Cursor>) -> bool
+    ensures { result ≡ marks.has_asked cursor }
+{
+    match cursor {
+        Some(cursor) => cursor.is_asked,
+        None => false,
+    }
+}
+
+/// A page of a watcher's own is on its way, or does not come.
+fn ask(cursor: &mut Option<Cursor>, is_asked: bool)
+    ensures asked { cursor.new ≡ marks.with_asked is_asked cursor.old }
+    ensures same { marks.with_asked false cursor.new ≡ marks.with_asked false cursor.old }
+{
+    if let Some(watch) = cursor {
+        watch.is_asked = is_asked;
+    }
+}
+
+/// What a client watches, each with how far it was pushed: of pages where it goes on; of what has one newest value the
+/// number of the one that was pushed last, 0 for none; of steps how many were left out since it was pushed any.
+#[derive(Clone, Copy)]
+pub(crate) struct Marks {
+    pub(crate) log: Option<Cursor>,
+    pub(crate) released: Option<Cursor>,
+    pub(crate) vars: Option<u64>,
+    pub(crate) horizon: Option<u64>,
+    pub(crate) breach: Option<u64>,
+    pub(crate) steps: Option<u64>,
+}
+
+/// Nothing is watched.
+pub(crate) const NO_MARKS: Marks = Marks {
+    log: None,
+    released: None,
+    vars: None,
+    horizon: None,
+    breach: None,
+    steps: None,
+};
+
+/// Which newest values a watcher was not pushed any of yet.
+#[derive(Clone, Copy)]
+pub(crate) struct Unpushed {
+    pub(crate) vars: bool,
+    pub(crate) horizon: bool,
+    pub(crate) breach: bool,
+}
+
+/// What this watches.
+pub(crate) fn subject_of(watch: Watch) -> Subject
+    ensures { result ≡ marks.subject_of watch }
+{
+    match watch {
+        Watch::Log(_) => Subject::Log,
+        Watch::Released(_) => Subject::Released,
+        Watch::Vars => Subject::Vars,
+        Watch::Horizon => Subject::Horizon,
+        Watch::Breach => Subject::Breach,
+        Watch::Steps => Subject::Steps,
+    }
+}
+
+impl Marks {
+    /// Begins to watch, anew where it is watched already: a page that is on its way still comes.
+    pub(crate) fn begin(&mut self, watch: Watch)
+        ensures { self.new ≡ marks.marks_with watch self.old }
+    {
+        match watch {
+            Watch::Log(place) => self.log = Some(Cursor::new(place, is_asked(self.log))),
+            Watch::Released(number) => {
+                self.released = Some(Cursor::new(number, is_asked(self.released)));
+            }
+            Watch::Vars => self.vars = Some(0),
+            Watch::Horizon => self.horizon = Some(0),
+            Watch::Breach => self.breach = Some(0),
+            Watch::Steps => self.steps = Some(0),
+        }
+    }
+
+    /// Watches this no longer.
+    pub(crate) fn end(&mut self, subject: Subject)
+        ensures { self.new ≡ marks.marks_without subject self.old }
+    {
+        match subject {
+            Subject::Log => self.log = None,
+            Subject::Released => self.released = None,
+            Subject::Vars => self.vars = None,
+            Subject::Horizon => self.horizon = None,
+            Subject::Breach => self.breach = None,
+            Subject::Steps => self.steps = None,
+        }
+    }
+
+    /// Where it goes on, of what comes in pages, if it watches it.
+    pub(crate) fn cursor(&self, subject: Subject) -> Option<Cursor>
+        ensures { result ≡ marks.cursor_in subject self.now }
+    {
+        match subject {
+            Subject::Log => self.log,
+            Subject::Released => self.released,
+            Subject::Vars | Subject::Horizon | Subject::Breach | Subject::Steps => None,
+        }
+    }
+
+    /// A page of its own is on its way, or does not come.
+    pub(crate) fn ask(&mut self, subject: Subject, is_asked: bool)
+        ensures asked { self.new ≡ marks.marks_asked subject is_asked self.old }
+        ensures same { marks.unasked self.new ≡ marks.unasked self.old }
+    {
+        match subject {
+            Subject::Log => ask(&mut self.log, is_asked),
+            Subject::Released => ask(&mut self.released, is_asked),
+            Subject::Vars | Subject::Horizon | Subject::Breach | Subject::Steps => {}
+        }
+    }
+
+    /// Which newest values it watches and was not pushed any of.
+    pub(crate) fn unpushed(&self) -> Unpushed {
+        Unpushed {
+            vars: is_unpushed(self.vars),
+            horizon: is_unpushed(self.horizon),
+            breach: is_unpushed(self.breach),
+        }
+    }
+
+    /// What it gets of these news of a thing, while so many bytes are to be written to it; they count as pushed. None
+    /// where it does not watch it.
+    pub(crate) fn take(&mut self, subject: Subject, news: News, unread: usize) -> Option<Given>
+        ensures given { marks.IsGivenOf subject news self.old result }
+        ensures after { marks.AreMarksBehind subject news self.old self.new }
+    {
+        match subject {
+            Subject::Log => take_page(&mut self.log, news),
+            Subject::Released => take_page(&mut self.released, news),
+            Subject::Vars => take_value(&mut self.vars, news),
+            Subject::Horizon => take_value(&mut self.horizon, news),
+            Subject::Breach => take_value(&mut self.breach, news),
+            Subject::Steps => take_steps(&mut self.steps, news, unread),
+        }
+    }
+}

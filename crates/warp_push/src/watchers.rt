@@ -1,0 +1,569 @@
+//! Who watches what, what is asked for them, what was told, and what is pushed of it.
+
+ghost use Rattle.std.specs.Prelude.{◌≡◌, ◌≤◌, [], IfSome, None, OnErr, OnOk, false};
+ghost use Rattle.warp_push.specs.Seats.{GetsSeat, GoesOnAt, Grows, IsAway, IsOwnPage, IsPage, IsPushedOf, IsThere, IsValue};
+ghost use Rattle.warp_push.specs.Seats.{May, Notes, OnlyAsks, Takes, Watches, WatchesNothing, is_own};
+ghost use Rattle.warp_push.specs.Marks as marks;
+
+use crate::lists::Lists;
+use crate::marks::{Given, News, Unpushed, subject_of};
+use crate::page::page_text;
+use crate::places::Places;
+use crate::shared::{Latest, NO_TAIL, Tail};
+use std::alloc::{AllocError, Global};
+use std::collections::VecDeque;
+use std::marker::Model;
+use warp_hub::{Subject, Watch, Word};
+use warp_watch::{ClientId, Question, Told};
+
+/// How many answers to what was asked for watchers may wait until they may be told on.
+pub const MOST_TOLD: usize = 64;
+
+/// What is asked for one watcher, or for all of a thing.
+#[derive(Clone, Copy)]
+pub struct Asked {
+    /// The watcher whose own it is; none where it is for all.
+    pub who: Option<ClientId>,
+    /// The question.
+    pub question: Question,
+}
+
+/// What was told to it.
+#[derive(Drop)]
+pub struct Answered {
+    asked: Asked,
+    told: Told,
+}
+
+impl Answered {
+    /// The length of the log of which it tells.
+    pub fn len(&self) -> u32 {
+        self.told.len
+    }
+}
+
+/// What is pushed of a thing: to one watcher, or to all.
+#[derive(Drop)]
+pub struct Pushing {
+    /// The watcher whose own it is; none where it is for all.
+    pub who: Option<ClientId>,
+    /// What is watched.
+    pub subject: Subject,
+    /// What it says.
+    pub news: News,
+    /// It tells of a log of this length.
+    pub len: u32,
+    /// Whole lines.
+    pub text: Vec<u8>,
+    /// Whether each watcher is to ask for its own pages behind it.
+    each: bool,
+}
+
+impl Pushing {
+    /// News of this text for all that watch a thing.
+    pub(crate) fn to_all(subject: Subject, news: News, len: u32, text: Vec<u8>) -> Pushing
+        ensures { result ≡ record { who = None; subject = subject; news = news; len = len; text = text; each = false } }
+    {
+        Pushing {
+            who: None,
+            subject,
+            news,
+            len,
+            text,
+            each: false,
+        }
+    }
+}
+
+/// The watchers.
+#[derive(Drop)]
+pub struct Watchers {
+    alloc: Global,
+    places: Places,
+    lists: Lists,
+    log: Tail,
+    released: Tail,
+    vars: Latest,
+    horizon: Latest,
+    breach: Latest,
+    /// The keys of those that may want pages of their own, each once.
+    wanting: VecDeque<u32>,
+    /// What was told, until it may be told on.
+    told: VecDeque<Answered>,
+}
+
+impl Model for Watchers {
+    ghost use Rattle.std.specs.Prelude.{List};
+    ghost use Rattle.warp_push.specs.Seats.{Seat};
+
+    ghost Value = { List Seat };
+
+    ghost view = { λ w. w.places };
+}
+
+impl Watchers {
+    /// Nobody watches.
+    pub fn new(alloc: Global) -> Watchers
+        ensures { result ≡ [] }
+    {
+        Watchers {
+            alloc,
+            places: Places::new(alloc),
+            lists: Lists::new(alloc),
+            log: NO_TAIL,
+            released: NO_TAIL,
+            vars: Latest::new(alloc, Question::Vars),
+            horizon: Latest::new(alloc, Question::Horizon),
+            breach: Latest::new(alloc, Question::Breaches),
+            wanting: VecDeque::new(alloc),
+            told: VecDeque::new(alloc),
+        }
+    }
+
+    /// Gives a client its place, in which it watches nothing; `Err` where there is no memory for it.
+    pub fn place(&mut self, who: ClientId) -> Result<(), AllocError>
+        ensures ok { OnOk result (GetsSeat who self.old self.new) }
+        ensures err { OnErr result (Grows self.old self.new) }
+    {
+        self.places.place(who)
+    }
+
+    /// A client is gone: it watches nothing.
+    pub fn leave(&mut self, who: ClientId)
+        ensures { May who WatchesNothing self.old self.new }
+    {
+        self.places.clear(who);
+    }
+
+    /// Whether somebody may watch steps.
+    pub fn are_steps_watched(&self) -> bool {
+        self.lists.is_any(Subject::Steps)
+    }
+
+    /// A client said this word, which begins or ends a watch; whether there was memory.
+    pub fn note(&mut self, who: ClientId, word: &Word) -> bool
+        ensures { Notes who word.now self.old self.new }
+    {
+        match *word {
+            Word::Watch(watch) => self.begin(who, watch),
+            Word::Unwatch(subject) => {
+                self.places.end(who, subject);
+                true
+            }
+            Word::Program
+            | Word::Names
+            | Word::Vars
+            | Word::Releases
+            | Word::Release(_)
+            | Word::Counts(_)
+            | Word::Reached(_) => true,
+        }
+    }
+
+    /// A client begins to watch; whether there was memory.
+    fn begin(&mut self, who: ClientId, watch: Watch) -> bool
+        ensures { May who (Watches (marks.marks_with watch)) self.old self.new }
+    {
+        let Some(unpushed) = self.places.begin(who, watch) else {
+            return true;
+        };
+        self.want_values(unpushed);
+        self.enlist(who, subject_of(watch)) && self.want(who.key)
+    }
+
+    /// Some watcher was not pushed any of these values.
+    fn want_values(&mut self, unpushed: Unpushed)
+        ensures { self.new ≡ self.old }
+    {
+        self.vars.want(unpushed.vars);
+        self.horizon.want(unpushed.horizon);
+        self.breach.want(unpushed.breach);
+    }
+
+    /// Puts a client into a list of watchers, once; whether there was memory.
+    fn enlist(&mut self, who: ClientId, subject: Subject) -> bool
+        ensures { self.new ≡ self.old }
+    {
+        if !self.places.enlist(who, subject) {
+            return true;
+        }
+        self.lists.add(subject, who.key)
+    }
+
+    /// The client of this key may want pages of its own; whether there was memory.
+    pub fn want(&mut self, key: u32) -> bool
+        ensures { self.new ≡ self.old }
+    {
+        if !self.places.may_want(key) {
+            return true;
+        }
+        let is_wanting = self.wanting.push_back(key).is_ok();
+        self.places.set_wanting(key, is_wanting);
+        is_wanting
+    }
+
+    /// All watchers of pages may want their own.
+    fn want_all(&mut self, subject: Subject)
+        ensures { self.new ≡ self.old }
+    {
+        for at in 0..self.lists.count(subject) {
+            self.want_at(subject, at);
+        }
+    }
+
+    /// Who stands at this place of a list of watchers may want pages of its own.
+    fn want_at(&mut self, subject: Subject, at: usize)
+        ensures { self.new ≡ self.old }
+    {
+        let Some(key) = self.lists.key(subject, at) else {
+            return;
+        };
+        let _is_noted = self.want(key);
+    }
+
+    /// How many may want pages of their own.
+    pub fn wanting(&self) -> usize {
+        self.wanting.len()
+    }
+
+    /// The next that may want pages of its own; it stands among them no more.
+    pub fn next_wanting(&mut self) -> Option<ClientId>
+        ensures same { self.new ≡ self.old }
+        ensures there { IfSome result (λ who. IsThere who (λ s. Unit {0}) self.new) }
+    {
+        let key = self.wanting.pop_front()?;
+        self.places.set_wanting(key, false);
+        self.places.who(key)
+    }
+
+    /// The page that a client wants of its own, which is on its way then: it is behind the others, and none is. Where it
+    /// wants another behind it, it stands among those that may want pages again.
+    pub fn own_page(&mut self, who: ClientId) -> Option<Question>
+        ensures only { OnlyAsks self.old self.new }
+        ensures own { IfSome result (λ question. IsOwnPage who question self.old) }
+    {
+        let question = self.next_page(who)?;
+        if self.wants_page(who) {
+            let _is_noted = self.want(who.key);
+        }
+        Some(question)
+    }
+
+    /// The page that a client wants of its own, which is on its way then.
+    fn next_page(&mut self, who: ClientId) -> Option<Question>
+        ensures only { OnlyAsks self.old self.new }
+        ensures own { IfSome result (λ question. IsOwnPage who question self.old) }
+    {
+        if let Some((from, until)) = self.page_of(who, Subject::Log) {
+            self.places.ask(who, Subject::Log, true);
+            return Some(Question::Log { from, until });
+        }
+        let (from, until) = self.page_of(who, Subject::Released)?;
+        self.places.ask(who, Subject::Released, true);
+        Some(Question::Released { from, until })
+    }
+
+    /// Whether it wants another.
+    fn wants_page(&self, who: ClientId) -> bool {
+        self.page_of(who, Subject::Log).is_some() || self.page_of(who, Subject::Released).is_some()
+    }
+
+    /// From where to where the page goes that a client wants of its own.
+    fn page_of(&self, who: ClientId, subject: Subject) -> Option<(u32, u32)>
+        ensures { IfSome result (λ at. IsThere who (λ s. GoesOnAt at.0 (marks.cursor_in subject s.marks)) self.now) }
+    {
+        let cursor = self.places.cursor(who, subject)?;
+        let tail = self.tail(subject);
+        if cursor.is_asked || cursor.is_done || !tail.is_behind(cursor.next) {
+            return None;
+        }
+        Some((cursor.next, tail.until()))
+    }
+
+    /// Where the watchers of pages are that have all there is.
+    fn tail(&self, subject: Subject) -> Tail {
+        match subject {
+            Subject::Log => self.log,
+            _ => self.released,
+        }
+    }
+
+    /// The next question that is due for all watchers of a thing, at this length of the log.
+    pub fn due(&mut self, newest: u32) -> Option<Question>
+        ensures { self.new ≡ self.old }
+    {
+        if let Some(question) = self.page_due(newest) {
+            return Some(question);
+        }
+        self.value_due(newest)
+    }
+
+    /// The next page that is due for all watchers.
+    fn page_due(&mut self, newest: u32) -> Option<Question>
+        ensures { self.new ≡ self.old }
+    {
+        if self.lists.is_any(Subject::Log) {
+            if let Some(from) = self.log.due(newest) {
+                return Some(Question::Log { from, until: 0 });
+            }
+        }
+        if !self.lists.is_any(Subject::Released) {
+            return None;
+        }
+        let from = self.released.due(newest)?;
+        Some(Question::Released { from, until: 0 })
+    }
+
+    /// The next value that is due for all watchers.
+    fn value_due(&mut self, newest: u32) -> Option<Question>
+        ensures { self.new ≡ self.old }
+    {
+        if self.lists.is_any(Subject::Vars) {
+            if let Some(question) = self.vars.due(newest) {
+                return Some(question);
+            }
+        }
+        if self.lists.is_any(Subject::Horizon) {
+            if let Some(question) = self.horizon.due(newest) {
+                return Some(question);
+            }
+        }
+        if !self.lists.is_any(Subject::Breach) {
+            return None;
+        }
+        self.breach.due(newest)
+    }
+
+    /// What was asked could not be told: it is asked again.
+    pub fn missed(&mut self, asked: &Asked)
+        ensures { OnlyAsks self.old self.new }
+    {
+        match asked.question {
+            Question::Log { .. } => self.miss_page(asked.who, Subject::Log),
+            Question::Released { .. } => self.miss_page(asked.who, Subject::Released),
+            Question::Vars => self.vars.missed(),
+            Question::Horizon => self.horizon.missed(),
+            Question::Breaches => self.breach.missed(),
+            Question::Releases
+            | Question::Release(_)
+            | Question::Counts(_)
+            | Question::Reached(_) => {}
+        }
+    }
+
+    /// A page does not come, for one watcher or for all.
+    fn miss_page(&mut self, who: Option<ClientId>, subject: Subject)
+        ensures { OnlyAsks self.old self.new }
+    {
+        match who {
+            Some(who) => {
+                self.places.ask(who, subject, false);
+                let _is_noted = self.want(who.key);
+            }
+            None => self.miss_tail(subject),
+        }
+    }
+
+    /// A page for all does not come.
+    fn miss_tail(&mut self, subject: Subject)
+        ensures { self.new ≡ self.old }
+    {
+        match subject {
+            Subject::Log => self.log.missed(),
+            _ => self.released.missed(),
+        }
+    }
+
+    /// Whether what was told may wait.
+    pub fn has_room(&self) -> bool {
+        self.told.len() < MOST_TOLD
+    }
+
+    /// This was told. Without memory it is asked again.
+    pub fn keep(&mut self, asked: Asked, told: Told)
+        ensures { OnlyAsks self.old self.new }
+    {
+        if self.told.push_back(Answered { asked, told }).is_err() {
+            self.missed(&asked);
+        }
+    }
+
+    /// What was told first, if it is of a log of no more records than so many.
+    pub fn next_within(&mut self, limit: u32) -> Option<Answered>
+        ensures same { self.new ≡ self.old }
+        ensures within { IfSome result (λ one. one.told.len ≤ limit) }
+    {
+        let first = self.told.front()?;
+        if first.told.len > limit {
+            return None;
+        }
+        self.told.pop_front()
+    }
+
+    /// What is pushed of what was told, if anything is. Without memory it is asked again.
+    pub fn pushing(&mut self, answered: &Answered) -> Option<Pushing>
+        ensures only { OnlyAsks self.old self.new }
+        ensures of { IfSome result (λ one. IsPushedOf answered.now.asked.question answered.now one) }
+    {
+        match answered.asked.question {
+            Question::Log { from, until } => self.page(Subject::Log, from, until, answered),
+            Question::Released { from, until } => {
+                self.page(Subject::Released, from, until, answered)
+            }
+            Question::Vars => self.value(Subject::Vars, answered),
+            Question::Horizon => self.value(Subject::Horizon, answered),
+            Question::Breaches => self.value(Subject::Breach, answered),
+            Question::Releases
+            | Question::Release(_)
+            | Question::Counts(_)
+            | Question::Reached(_) => None,
+        }
+    }
+
+    /// The page that is pushed, to one watcher or to all.
+    fn page(
+        &mut self,
+        subject: Subject,
+        from: u32,
+        until: u32,
+        answered: &Answered,
+    ) -> Option<Pushing>
+        ensures only { OnlyAsks self.old self.new }
+        ensures of { IfSome result (λ one. IsPage subject from answered.now one) }
+    {
+        let told = &answered.told;
+        let Ok(text) = page_text(self.alloc, &told.text, told.frozen) else {
+            self.missed(&answered.asked);
+            return None;
+        };
+        let who = answered.asked.who;
+        let news = News::Page {
+            from,
+            next: told.next,
+            frozen: told.frozen,
+            is_own: is_own(who),
+        };
+        let each = self.learn(subject, from, until, answered);
+        Some(Pushing {
+            who,
+            subject,
+            news,
+            len: told.len,
+            text,
+            each,
+        })
+    }
+
+    /// What a page says of where the watchers are. Whether each is to ask for its own from now on.
+    fn learn(&mut self, subject: Subject, from: u32, until: u32, answered: &Answered) -> bool
+        ensures { self.new ≡ self.old }
+    {
+        let told = &answered.told;
+        let mut tail = self.tail(subject);
+        let mut each = false;
+        match answered.asked.who {
+            Some(_) => tail.learn(from, until, told.next, told.frozen, told.len),
+            None => each = tail.told(from, told.next, told.frozen, told.len),
+        }
+        self.set_tail(subject, tail);
+        each
+    }
+
+    /// This is known of where the watchers of pages are.
+    fn set_tail(&mut self, subject: Subject, tail: Tail)
+        ensures { self.new ≡ self.old }
+    {
+        match subject {
+            Subject::Log => self.log = tail,
+            _ => self.released = tail,
+        }
+    }
+
+    /// The newest value of a thing that is pushed to all that were not pushed it.
+    fn value(&mut self, subject: Subject, answered: &Answered) -> Option<Pushing>
+        ensures same { self.new ≡ self.old }
+        ensures of { IfSome result (λ one. IsValue subject answered.now one) }
+    {
+        match subject {
+            Subject::Vars => value_of(&mut self.vars, self.alloc, subject, answered),
+            Subject::Horizon => value_of(&mut self.horizon, self.alloc, subject, answered),
+            _ => value_of(&mut self.breach, self.alloc, subject, answered),
+        }
+    }
+
+    /// This was pushed: who wants pages of its own behind it stands among those that may.
+    pub fn pushed(&mut self, pushing: &Pushing)
+        ensures { self.new ≡ self.old }
+    {
+        if let Some(who) = pushing.who {
+            let _is_noted = self.want(who.key);
+            return;
+        }
+        if pushing.each {
+            self.want_all(pushing.subject);
+        }
+    }
+
+    /// How many stand in a list of watchers.
+    pub fn count(&self, subject: Subject) -> usize {
+        self.lists.count(subject)
+    }
+
+    /// Who stands at this place of a list of watchers.
+    pub fn watcher(&self, subject: Subject, at: usize) -> Option<ClientId>
+        ensures { IfSome result (λ who. IsThere who (λ s. Unit {0}) self.now) }
+    {
+        let key = self.lists.key(subject, at)?;
+        self.places.who(key)
+    }
+
+    /// Who stands at this place of a list watches no longer: it leaves the list.
+    pub fn drop_at(&mut self, subject: Subject, at: usize)
+        ensures { self.new ≡ self.old }
+    {
+        let Some(key) = self.lists.remove(subject, at) else {
+            return;
+        };
+        self.places.delist(key, subject);
+    }
+
+    /// What a client gets of these news of a thing, while so many bytes are to be written to it; none where it does not
+    /// watch it.
+    pub fn take(
+        &mut self,
+        who: ClientId,
+        subject: Subject,
+        news: News,
+        unread: usize,
+    ) -> Option<Given>
+        ensures takes { May who (Takes subject news result) self.old self.new }
+        ensures away { IsAway who self.old → result ≡ None }
+    {
+        self.places.take(who, subject, news, unread)
+    }
+}
+
+/// The newest value of a thing, as it was told, for all that were not pushed it.
+fn value_of(
+    latest: &mut Latest,
+    alloc: Global,
+    subject: Subject,
+    answered: &Answered,
+) -> Option<Pushing>
+    ensures { IfSome result (λ one. IsValue subject answered.now one) }
+{
+    let told = &answered.told;
+    let text = latest.news(alloc, told.len, &told.text)?;
+    let news = News::Value(latest.version());
+    Some(Pushing::to_all(subject, news, told.len, text))
+}
+
+/// Whether what was told is a watcher's own.
+fn is_own(who: Option<ClientId>) -> bool
+    ensures { result ≡ is_own who }
+{
+    match who {
+        Some(_) => true,
+        None => false,
+    }
+}
