@@ -77,6 +77,8 @@ pub(crate) struct Client {
     pub(crate) watches: Subjects,
     /// It is over once it has said the whole lines that came.
     pub(crate) ceases: bool,
+    /// The digest of the last token that it said, of those that there were.
+    pub(crate) token: Option<[u8; 32]>,
 }
 
 impl Model for Client {
@@ -123,6 +125,7 @@ impl Client {
             is_listed: false,
             watches: NO_SUBJECTS,
             ceases: false,
+            token: None,
         }
     }
 
@@ -270,7 +273,9 @@ impl Client {
             self.has_ended = true;
         }
         self.has_spoken = true;
-        self.slot = Some(read_saying(facts, &self.rights, is_failing, fed));
+        let said = read_saying(facts, &self.rights, is_failing, fed);
+        self.note_token(facts, &said, fed);
+        self.slot = Some(said);
     }
 
     /// Answers the requests that came.

@@ -20,6 +20,7 @@ mod telling;
 #[cfg(test)]
 mod tests;
 mod texts;
+mod tokens;
 mod watching;
 mod writing;
 

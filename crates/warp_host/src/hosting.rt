@@ -1,16 +1,17 @@
 //! A host from its start to its end: the worker in this thread, and those beside it.
 
+use crate::channel::Channel;
 use crate::entrance::Entrance;
-use crate::input_end::InputEnd;
 use crate::links::Links;
 use crate::lookup::{Lookup, Seeking, make_lookup, spelled_address};
 use crate::operator;
-use crate::options::Outside;
+use crate::options::{ChannelUse, Outside};
 use crate::seats::Seats;
 use crate::worker::{LISTENER, Offers, WAKER, Worker, micros_of};
 use mio::net::TcpListener;
 use mio::{Events, Interest, Poll, Waker};
 use std::alloc::{AllocError, Global};
+use std::fs::Files;
 use std::hash::RandomState;
 use std::io::{self, Eprint};
 use std::net::{self, Net};
@@ -53,11 +54,11 @@ impl From<AllocError> for HostFault {
 }
 
 /// What a host needs of the system.
-pub trait System: Eprint + FreshFiles + Threads + Wait + Clock + Sync {}
+pub trait System: Eprint + Files + FreshFiles + Threads + Wait + Clock + Sync {}
 
 impl<X> System for X
 where
-    X: Eprint + FreshFiles + Threads + Wait + Clock + Sync,
+    X: Eprint + Files + FreshFiles + Threads + Wait + Clock + Sync,
 {}
 
 /// What runs beside the worker: the threads of the journal, and the one that looks names up, where they are wanted.
@@ -120,7 +121,7 @@ fn run_beside<'s, E, X, P, M: Decides<P>>(
 ) -> Result<(), HostFault>
 where
     X: Net<Listener = net::TcpListener, Stream = net::TcpStream> + 's,
-    X: Eprint + FreshFiles + Threads + Wait + Clock + Sync,
+    X: Eprint + Files + FreshFiles + Threads + Wait + Clock + Sync,
 {
     let Beside { writers, lookup } = beside;
     let Ok(writing) = start_writing(scope, rt, writers) else {
@@ -182,20 +183,20 @@ fn make_worker<X: Eprint + Clock>(
     poll: Poll,
     ends: Ends,
     listener: TcpListener,
-    until_input_ends: bool,
+    uses: ChannelUse,
     peers: u16,
 ) -> Result<Worker, HostFault> {
     let now = micros_of(or_told(rt, "time", rt.monotonic())?);
     let buffer = vec![in alloc; 0u8; READ]?;
     let links = Links::new(alloc, peers)?;
     let entrance = make_entrance(rt, &poll, listener)?;
-    let input = InputEnd::new(&poll, until_input_ends);
+    let channel = Channel::new(alloc, &poll, uses);
     let Ends { handing, seeking } = ends;
     Ok(Worker {
         alloc,
         poll,
         entrance: Some(entrance),
-        input,
+        channel,
         seats: Seats::new(alloc),
         links,
         handing,
@@ -265,11 +266,11 @@ fn host_with<
     let Outside {
         listener,
         peers,
-        until_input_ends,
+        channel,
         journal,
     } = outside;
     let (ends, beside) = make_beside(alloc, shared, journal, wants_lookup(machine, peers))?;
-    let mut worker = make_worker(rt, alloc, poll, ends, listener, until_input_ends, peers)?;
+    let mut worker = make_worker(rt, alloc, poll, ends, listener, channel, peers)?;
     worker.act(rt, machine);
     run_all(rt, machine, shared, beside, &mut worker)
 }

@@ -2,9 +2,9 @@
 //!
 //! It decides nothing: each of its branches is on a result of the system, or on what the machine says.
 
+use crate::channel::Channel;
 use crate::entrance::{Arrival, Entrance};
 use crate::hosting::HostFault;
-use crate::input_end::InputEnd;
 use crate::links::{FIRST_PEER, Links, Standing};
 use crate::lookup::{Seeking, spelled_address};
 use crate::operator;
@@ -13,6 +13,7 @@ use mio::event::Event;
 use mio::net::TcpStream;
 use mio::{Events, Interest, Poll, Token};
 use std::alloc::Global;
+use std::fs::Files;
 use std::io::Eprint;
 use std::net::Net;
 use std::sync::Wait;
@@ -27,6 +28,8 @@ pub(crate) const WAKER: Token = Token(usize::MAX - 1);
 
 pub(crate) const INPUT: Token = Token(usize::MAX - 2);
 
+pub(crate) const OUTPUT: Token = Token(usize::MAX - 3);
+
 /// So many connections are accepted in a round at most.
 const MOST_ARRIVALS: u32 = 64;
 
@@ -40,11 +43,11 @@ const SECOND: u64 = 1_000_000;
 const MOMENT: u64 = 1;
 
 /// What the system offers to a worker.
-pub(crate) trait Offers: Eprint + Net + Wait + Clock {}
+pub(crate) trait Offers: Eprint + Files + Net + Wait + Clock {}
 
 impl<X> Offers for X
 where
-    X: Eprint + Net + Wait + Clock,
+    X: Eprint + Files + Net + Wait + Clock,
 {}
 
 /// The sockets of a host, its standard input, and the worker's ways to other threads.
@@ -53,7 +56,7 @@ pub(crate) struct Worker {
     pub(crate) alloc: Global,
     pub(crate) poll: Poll,
     pub(crate) entrance: Option<Entrance>,
-    pub(crate) input: InputEnd,
+    pub(crate) channel: Channel,
     pub(crate) seats: Seats,
     pub(crate) links: Links,
     pub(crate) handing: Handing,
@@ -151,6 +154,7 @@ impl Worker {
             }
             WAKER => {}
             INPUT => self.may_read_input = true,
+            OUTPUT => self.channel.note_output(),
             Token(key) if key >= FIRST_PEER => self.links.note(key - FIRST_PEER, event),
             Token(key) => self
                 .seats
@@ -163,7 +167,7 @@ impl Worker {
         self.accept_some(machine);
         self.serve_some(machine);
         self.look_at_links(machine);
-        self.look_at_input(machine);
+        self.look_at_input(rt, machine, shared.durable);
         // What other threads make from now on wakes the worker.
         shared.bells.worker_sleeps();
         self.look_at_journal(machine, shared.durable);
@@ -367,7 +371,12 @@ impl Worker {
     }
 
     /// Has the machine do what is due, and looks at what no event tells of.
-    fn tick<X: Eprint, P, M: Decides<P>>(&mut self, rt: &X, machine: &mut M, durable: &Durable) {
+    fn tick<X: Eprint + Files, P, M: Decides<P>>(
+        &mut self,
+        rt: &X,
+        machine: &mut M,
+        durable: &Durable,
+    ) {
         if machine.due() <= self.now {
             machine.seen(self.seen(durable));
             machine.tick(self.now);
@@ -376,15 +385,20 @@ impl Worker {
             return;
         }
         self.looked = self.now;
-        self.look_again(machine);
+        self.look_again(rt, machine, durable);
         self.tell_slow_write(rt, durable);
     }
 
     /// Looks at what no event tells of.
-    fn look_again<P, M: Decides<P>>(&mut self, machine: &mut M) {
-        if self.input.is_always_ready() {
+    fn look_again<X: Eprint + Files, P, M: Decides<P>>(
+        &mut self,
+        rt: &X,
+        machine: &mut M,
+        durable: &Durable,
+    ) {
+        if self.channel.is_always_ready() {
             self.may_read_input = true;
-            self.look_at_input(machine);
+            self.look_at_input(rt, machine, durable);
         }
         if let Some(entrance) = &mut self.entrance {
             entrance.try_again();
@@ -402,7 +416,7 @@ impl Worker {
     }
 
     /// What the system knows that is measured.
-    fn seen(&self, durable: &Durable) -> JournalSeen {
+    pub(crate) fn seen(&self, durable: &Durable) -> JournalSeen {
         let (_, unsynced) = durable.waiting();
         JournalSeen {
             records: durable.synced(),
@@ -413,14 +427,6 @@ impl Worker {
                 None => 0,
             },
         }
-    }
-
-    /// Reads standard input, if there may be something. Its end is told, behind what came before it.
-    fn look_at_input<P, M: Decides<P>>(&mut self, machine: &mut M) {
-        if self.may_read_input && self.input.look(&self.poll) {
-            machine.input_ended(self.now);
-        }
-        self.may_read_input = false;
     }
 
     /// Does what the machine wants.

@@ -23,6 +23,17 @@ pub enum Rights {
 }
 
 impl Rights {
+    /// Whether the same may be sent with these.
+    pub fn is_same(&self, other: &Rights) -> bool {
+        match (self, other) {
+            (Rights::Origins(mine), Rights::Origins(others)) => mine == others,
+            (Rights::Nothing, Rights::Nothing)
+            | (Rights::Read, Rights::Read)
+            | (Rights::All, Rights::All) => true,
+            _ => false,
+        }
+    }
+
     /// Whether it may send anything but a token.
     pub fn is_known(&self) -> bool
         ensures { result ≡ spec.is_known self.now }

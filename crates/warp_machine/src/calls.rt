@@ -260,11 +260,18 @@ impl<T: Timeline> Machine<T> {
         ensures { Moved (facts_of T.settled T.refused T.floor T.SLACK)
             (clients_in self.old) (clients_in self.new) }
     {
+        self.end_in_order(Note::InputEnded, now);
+    }
+
+    /// The same, for the reason that this note tells.
+    pub(crate) fn end_in_order(&mut self, why: Note, now: u64)
+        ensures { Moved (facts_of T.settled T.refused T.floor T.SLACK) self.old.clients self.new.clients }
+    {
         self.now = now;
         if self.ending.is_some() {
             return;
         }
-        self.tell(Note::InputEnded);
+        self.tell(why);
         self.ending = Some(now);
         self.shuts = true;
         self.peers.clear();

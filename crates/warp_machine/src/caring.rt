@@ -165,7 +165,7 @@ impl<T: Timeline> Machine<T> {
     }
 
     /// Notes the horizon, where all is executed.
-    fn note_horizon(&mut self)
+    pub(crate) fn note_horizon(&mut self)
         ensures { self.new.clients ≡ self.old.clients }
     {
         if !self.clients.room().is_settled() {

@@ -7,6 +7,7 @@ ghost use Rattle.warp_machine.specs.Moving.{Began, Moved, clients_in};
 use crate::action::Ending;
 use crate::conns::Conns;
 use crate::moves;
+use crate::operating::Level;
 use crate::peering::Followed;
 use crate::start::{JournalSeen, Options, PeerAt, Start};
 use std::alloc::Global;
@@ -95,6 +96,8 @@ pub struct Machine<T: Timeline> {
     pub(crate) most_records: u32,
     /// The answer to `program`.
     program: Vec<u8>,
+    /// Which notes are told.
+    pub(crate) level: Level,
     /// The time of the last call.
     pub(crate) now: u64,
     /// Of so long a log may be told.
@@ -188,6 +191,7 @@ impl<T: Timeline> Machine<T> {
             options,
             most_records,
             program,
+            level: Level::Info,
             now,
             limit: 0,
             is_failing: false,
@@ -237,7 +241,7 @@ impl<T: Timeline> Machine<T> {
     pub(crate) fn tell(&mut self, note: Note)
         ensures { self.new.clients ≡ self.old.clients }
     {
-        if self.notes.len() < MOST_NOTES {
+        if self.level.tells(&note) && self.notes.len() < MOST_NOTES {
             let _ = self.notes.push_back(note);
         }
     }

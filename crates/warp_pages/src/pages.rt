@@ -9,7 +9,7 @@ use http::{HeaderMap, HeaderName, HeaderValue, Method, Request, StatusCode, Vers
 use http_server::{Response, Service};
 use std::alloc::{AllocError, Global};
 use warp_clients::{Answers, Visits};
-use warp_hub::{Rights, Tokens};
+use warp_hub::{Rights, Tokens, digest_of};
 use websocket::handshake::server::accept_key;
 
 const HTML: &str = "text/html; charset=utf-8";
@@ -34,8 +34,15 @@ const MOST_GUESSES: u32 = 3;
 pub struct Visit {
     /// How many of them wanted a token, and brought none or a wrong one.
     guesses: u32,
-    /// The rights of the token that its request for WebSocket brought, if it brought one.
-    rights: Option<Rights>,
+    /// What its request for WebSocket brought, if it brought a token.
+    brought: Option<Brought>,
+}
+
+/// A token that a request brought.
+#[derive(Clone, Copy)]
+struct Brought {
+    digest: [u8; 32],
+    rights: Rights,
 }
 
 impl Visit {
@@ -43,8 +50,14 @@ impl Visit {
     pub fn new() -> Visit {
         Visit {
             guesses: 0,
-            rights: None,
+            brought: None,
         }
+    }
+
+    /// The digest of the token that its request for WebSocket brought, if it brought one.
+    pub fn token(&self) -> Option<[u8; 32]> {
+        let brought = self.brought?;
+        Some(brought.digest)
     }
 }
 
@@ -85,8 +98,8 @@ pub struct Texts {
 enum Answered {
     /// Nothing.
     Plain,
-    /// The connection is upgraded, with the rights of the token that it brought, if it brought one.
-    Upgraded(Option<Rights>),
+    /// The connection is upgraded, with the token that it brought, if it brought one.
+    Upgraded(Option<Brought>),
 }
 
 /// What is asked for.
@@ -297,9 +310,21 @@ impl Pages {
         }
     }
 
-    /// The rights of this token; `None` where there is no such token.
-    fn rights_of(&self, token: &[u8]) -> Option<Rights> {
-        self.tokens.as_ref()?.find(token)
+    /// What may be sent with the token of this digest; `None` where there is none.
+    pub fn find_digest(&self, digest: &[u8; 32]) -> Option<Rights> {
+        self.tokens.as_ref()?.find_digest(digest)
+    }
+
+    /// These are the tokens from now on.
+    pub fn take_tokens(&mut self, tokens: Tokens) {
+        self.tokens = Some(tokens);
+    }
+
+    /// This token, where there is such a one.
+    fn brought(&self, token: &[u8]) -> Option<Brought> {
+        let digest = digest_of(token);
+        let rights = self.find_digest(&digest)?;
+        Some(Brought { digest, rights })
     }
 
     /// Whether the request may have what only those with a token may have.
@@ -307,29 +332,29 @@ impl Pages {
         self.tokens.is_none() || self.bearer(request).is_some()
     }
 
-    /// The rights of the token that the request's `Authorization` has.
-    fn bearer(&self, request: &Request<Bytes>) -> Option<Rights> {
+    /// The token that the request's `Authorization` has.
+    fn bearer(&self, request: &Request<Bytes>) -> Option<Brought> {
         let value = request.headers().get("authorization")?;
         let text = value.to_str().ok()?;
-        self.rights_of(text.strip_prefix("Bearer ")?.as_bytes())
+        self.brought(text.strip_prefix("Bearer ")?.as_bytes())
     }
 
-    /// The rights of the token that a request for an upgrade brings: `Ok(None)` where it brings none.
-    fn web_rights(&self, request: &Request<Bytes>) -> Result<Option<Rights>, StatusCode> {
+    /// The token that a request for an upgrade brings: `Ok(None)` where it brings none.
+    fn web_token(&self, request: &Request<Bytes>) -> Result<Option<Brought>, StatusCode> {
         if self.tokens.is_none() {
             return Ok(None);
         }
         if request.headers().contains_key("authorization") {
             return match self.bearer(request) {
-                Some(rights) => Ok(Some(rights)),
+                Some(brought) => Ok(Some(brought)),
                 None => Err(StatusCode::UNAUTHORIZED),
             };
         }
         let Some(token) = token_of(request.uri().query().unwrap_or("").as_bytes()) else {
             return Ok(None);
         };
-        match self.rights_of(token.as_slice()) {
-            Some(rights) => Ok(Some(rights)),
+        match self.brought(token.as_slice()) {
+            Some(brought) => Ok(Some(brought)),
             None => Err(StatusCode::UNAUTHORIZED),
         }
     }
@@ -350,10 +375,10 @@ impl Pages {
         let Some(accept) = accept_of(headers) else {
             return Ok(refuse(response, StatusCode::BAD_REQUEST));
         };
-        match self.web_rights(request) {
-            Ok(rights) => {
+        match self.web_token(request) {
+            Ok(brought) => {
                 accept_upgrade(self.alloc, response, &accept)?;
-                Ok(Answered::Upgraded(rights))
+                Ok(Answered::Upgraded(brought))
             }
             Err(status) => Ok(refuse(response, status)),
         }
@@ -488,8 +513,8 @@ impl Service for Pages {
             Ok(answered) => {
                 self.answered = self.answered.wrapping_add(1);
                 self.count(response.status.as_u16());
-                if let Answered::Upgraded(rights) = answered {
-                    self.visit.rights = rights;
+                if let Answered::Upgraded(brought) = answered {
+                    self.visit.brought = brought;
                 }
                 Ok(())
             }
@@ -506,6 +531,7 @@ impl Answers for Pages {
 
 impl Visits for Pages {
     fn rights(&self) -> Option<Rights> {
-        self.visit.rights
+        let brought = self.visit.brought?;
+        Some(brought.rights)
     }
 }

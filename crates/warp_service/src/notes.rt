@@ -65,6 +65,8 @@ pub enum Note {
     LogFull,
     /// The host ends with its input.
     InputEnded,
+    /// The host ends since its operator wants that.
+    Stopped,
     /// What came of a peer.
     Peer {
         /// The peer, by its number.
@@ -186,6 +188,7 @@ fn write_other<W: fmt::Write>(f: &mut fmt::Formatter<W>, note: Note) -> fmt::Res
         ),
         Note::LogFull => f.write_str("the log is full: no further record is taken"),
         Note::InputEnded => f.write_str("standard input ended: the host ends"),
+        Note::Stopped => f.write_str("stopped by its operator: the host ends"),
         Note::Started { .. }
         | Note::Peer { .. }
         | Note::JournalFails(_)

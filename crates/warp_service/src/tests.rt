@@ -144,6 +144,7 @@ const WORDS: &[(Note, &str)] = &[
     ),
     (Note::LogFull, "the log is full: no further record is taken"),
     (Note::InputEnded, "standard input ended: the host ends"),
+    (Note::Stopped, "stopped by its operator: the host ends"),
     (
         Note::Peer {
             peer: 0,

@@ -37,7 +37,20 @@ With --journal the log is kept in a file, which is text, and read again at the n
 Without --journal nothing is stored on disk.
 
 Each PEER, another host or server, is followed for as long as the
-host runs: its records come in here. A host that runs another program is refused.";
+host runs: its records come in here. A host that runs another program is refused.
+
+With --operator standard input has words of its operator, one a line. Each has one line back on
+standard output, `ok ..` or `no WHY`:
+
+  stop          what was read is answered, the journal synced, and the host ends: ok
+  status        how it is: ok clients N MOST records N MOST synced N peers FOUND ALL
+                horizon TIME MICROSTEP full 0 failing 0
+  tokens        the file of --tokens is read again, and who lost a token is closed: ok closed N
+  log-level L   what standard error tells: faults (error), also who was refused or lost (warn),
+                or all, as at first (info): ok
+
+The end of standard input ends a host with --until-input-ends alone. tools/warpd-service holds
+it open, and makes words of signals.";
 
 const NOTES: &str = "\
 With --tokens each line of the file is `TOKEN *`, `TOKEN read` or `TOKEN ORIGIN[,ORIGIN]..`, and
@@ -72,10 +85,12 @@ pub(crate) const OPEN_HELP: &str = "Listen on any address without tokens: everyb
 
 pub(crate) const UNTIL_INPUT_ENDS_HELP: &str = "End in order when standard input ends";
 
+pub(crate) const OPERATOR_HELP: &str = "Take an operator's words on standard input";
+
 pub(crate) const JOURNAL_HELP: &str = "Keep the log in this file: nothing that was told is lost";
 
 pub(crate) const SYNC_HELP: &str =
-    "When the journal is brought to the disk: always (if not given), never or MILLISECONDS";
+    "When the journal is synced: always, never or MILLISECONDS up to 60000, always if not given";
 
 /// The texts on `host`.
 pub(crate) fn help() -> Help {

@@ -1,0 +1,60 @@
+//! Tokens that change while clients are there: whose token one has, and others in the place of those that there were.
+ghost use Rattle.std.specs.Prelude.{◌≡◌};
+
+use crate::client::Client;
+use crate::clients::Clients;
+use crate::crowd::Crowd;
+use crate::places::Places;
+use crate::saying::Saying;
+use warp_hub::{Facts, Tokens, digest_of, read_token};
+use warp_line::Timeline;
+use warp_record::Fed;
+use warp_watch::ClientId;
+
+impl Client {
+    /// Notes whose token it said, if it said one that there is.
+    pub(crate) fn note_token(&mut self, facts: &Facts, said: &Saying, fed: &Fed)
+        ensures { self.new ≡ self.old }
+    {
+        if facts.tokens.is_none() || !matches!(said, Saying::Token(Some(_))) {
+            return;
+        }
+        if let Fed::Text(text) = fed {
+            if let Some(token) = read_token(text) {
+                self.token = Some(digest_of(token));
+            }
+        }
+    }
+}
+
+impl Places {
+    /// The digest of the last token that the client said, of those that there were.
+    fn token(&self, who: ClientId) -> Option<[u8; 32]> {
+        let at = self.find(who)?;
+        self.clients.get(at)?.token
+    }
+}
+
+impl Crowd {
+    /// These are the tokens from now on.
+    fn take_tokens(&mut self, tokens: Tokens)
+        ensures { self.new.clients ≡ self.old.clients }
+    {
+        self.facts.tokens = Some(tokens);
+    }
+}
+
+impl<T: Timeline> Clients<T> {
+    /// The digest of the last token that a client said by a line, of those that there were: also while its answer waits.
+    pub fn token(&self, who: ClientId) -> Option<[u8; 32]> {
+        self.crowd.places.token(who)
+    }
+
+    /// These are the tokens from now on. What clients may send that said one before stays as it is.
+    pub fn take_tokens(&mut self, tokens: Tokens)
+        ensures room { self.new.room ≡ self.old.room }
+        ensures clients { self.new.crowd.clients ≡ self.old.crowd.clients }
+    {
+        self.crowd.take_tokens(tokens);
+    }
+}
