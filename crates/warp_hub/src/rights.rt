@@ -1,6 +1,6 @@
 //! Rights: whose records a client may send.
 
-ghost use Rattle.std.specs.Prelude.{◌≡◌};
+ghost use Rattle.std.specs.Prelude.{◌≡◌, ◌↔◌, IsTrue};
 ghost use Rattle.warp_record.specs.Record.{origin_of};
 ghost use Rattle.warp_hub.specs.Rights as spec;
 
@@ -24,7 +24,9 @@ pub enum Rights {
 
 impl Rights {
     /// Whether the same may be sent with these.
-    pub fn is_same(&self, other: &Rights) -> bool {
+    pub fn is_same(&self, other: &Rights) -> bool
+        ensures { IsTrue result ↔ (self.now ≡ other.now) }
+    {
         match (self, other) {
             (Rights::Origins(mine), Rights::Origins(others)) => mine == others,
             (Rights::Nothing, Rights::Nothing)
