@@ -23,3 +23,10 @@ joined facts s s1 s2 one two =
 pub may_step : {T : Type 0} (facts : TimelineFacts T) (step : Step) (s s' : ClientsState T) → (s' ≡ s) ⊎ StepDoes facts step s s' → Moved facts s s'
 may_step facts step s s' (inl same) = stays facts s s' same
 may_step facts step s s' (inr does) = by_step facts step s s' does
+
+-- steps, and then nothing; nothing, and then steps
+pub kept_on : {T : Type 0} (facts : TimelineFacts T) (s s1 s2 : ClientsState T) → Moved facts s s1 → s2 ≡ s1 → Moved facts s s2
+kept_on facts s s1 s2 moved same = joined facts s s1 s2 moved (stays facts s1 s2 same)
+
+pub kept_first : {T : Type 0} (facts : TimelineFacts T) (s s1 s2 : ClientsState T) → s1 ≡ s → Moved facts s1 s2 → Moved facts s s2
+kept_first facts s s1 s2 same moved = joined facts s s1 s2 (stays facts s s1 same) moved

@@ -74,9 +74,10 @@ impl<T: Timeline> Machine<T> {
     {
         self.now = now;
         let is_first = self.clients.kind(who) == Kind::Unknown;
-        if self.conns.note_bytes(who, is_first, now) {
-            self.take(who, bytes);
+        if !self.conns.note_bytes(who, is_first, now) {
+            return bytes.len();
         }
+        self.take(who, bytes);
         bytes.len()
     }
 
@@ -87,6 +88,13 @@ impl<T: Timeline> Machine<T> {
         let heard = self.hear(who, bytes);
         self.conns.keep(who, &bytes[heard..]);
         self.say(who);
+        self.unwant_hear(who);
+    }
+
+    /// Who reads a client asks whether its bytes are wanted.
+    fn unwant_hear(&mut self, who: ClientId)
+        ensures { self.new.clients ≡ self.old.clients }
+    {
         if self.wants(who) {
             self.conns.unwant_hear(who);
         }
@@ -284,11 +292,18 @@ impl<T: Timeline> Machine<T> {
         ensures { Moved (facts_of T.settled T.refused T.floor T.SLACK) self.old.clients self.new.clients }
     {
         for at in 0..self.conns.places() {
-            let who = self.conns.who(at);
-            if let Some(who) = who {
-                self.stop_hearing(who);
-            }
+            self.stop_hearing_at(at);
         }
+    }
+
+    /// Nothing more is read of the client in this place, if there is one.
+    fn stop_hearing_at(&mut self, at: usize)
+        ensures { Moved (facts_of T.settled T.refused T.floor T.SLACK) self.old.clients self.new.clients }
+    {
+        let Some(who) = self.conns.who(at) else {
+            return;
+        };
+        self.stop_hearing(who);
     }
 
     /// Nothing more of a client is read. One that has not said what it speaks, or speaks HTTP, goes.
@@ -320,6 +335,19 @@ impl<T: Timeline> Machine<T> {
         ensures { Moved (facts_of T.settled T.refused T.floor T.SLACK)
             (clients_in self.old) (clients_in self.new) }
     {
+        if let Some(action) = self.next_of_all() {
+            return Some(action);
+        }
+        if let Some(action) = self.next_of_conns() {
+            return Some(action);
+        }
+        self.next_of_others()
+    }
+
+    /// What an operator is to be told, and that no more connections are let in.
+    fn next_of_all(&mut self) -> Option<Action>
+        ensures { self.new.clients ≡ self.old.clients }
+    {
         if let Some(note) = self.notes.pop_front() {
             return Some(Action::Tell(note));
         }
@@ -327,9 +355,13 @@ impl<T: Timeline> Machine<T> {
             self.shuts = false;
             return Some(Action::Listen(false));
         }
-        if let Some(action) = self.next_of_conns() {
-            return Some(action);
-        }
+        None
+    }
+
+    /// What is to be done next for peers, and that the host has ended.
+    fn next_of_others(&mut self) -> Option<Action>
+        ensures { self.new.clients ≡ self.old.clients }
+    {
         if let Some(action) = self.next_of_peers() {
             return Some(action);
         }

@@ -29,10 +29,17 @@ impl<T: Timeline> Machine<T> {
             return;
         }
         self.tick_peers();
+        self.look_if_due(now);
+        self.look_at_end();
+    }
+
+    /// Looks at what is late, where a second is over.
+    fn look_if_due(&mut self, now: u64)
+        ensures { Moved (facts_of T.settled T.refused T.floor T.SLACK) self.old.clients self.new.clients }
+    {
         if self.timers.look(now) {
             self.look_around();
         }
-        self.look_at_end();
     }
 
     /// Looks after clients, and at what an operator is told and what is measured.
@@ -40,6 +47,13 @@ impl<T: Timeline> Machine<T> {
         ensures { Moved (facts_of T.settled T.refused T.floor T.SLACK) self.old.clients self.new.clients }
     {
         self.look_after_clients();
+        self.note_second();
+    }
+
+    /// Tells an operator what there is to tell, and notes what is measured.
+    fn note_second(&mut self)
+        ensures { self.new.clients ≡ self.old.clients }
+    {
         self.tell_operator();
         self.time_answers();
         self.note_seen();
@@ -67,11 +81,18 @@ impl<T: Timeline> Machine<T> {
         ensures { Moved (facts_of T.settled T.refused T.floor T.SLACK) self.old.clients self.new.clients }
     {
         for at in 0..self.conns.places() {
-            let who = self.conns.who(at);
-            if let Some(who) = who {
-                self.look_after(who);
-            }
+            self.look_after_at(at);
         }
+    }
+
+    /// Looks after the client in this place, if there is one.
+    fn look_after_at(&mut self, at: usize)
+        ensures { Moved (facts_of T.settled T.refused T.floor T.SLACK) self.old.clients self.new.clients }
+    {
+        let Some(who) = self.conns.who(at) else {
+            return;
+        };
+        self.look_after(who);
     }
 
     /// Looks after a client.
@@ -81,15 +102,30 @@ impl<T: Timeline> Machine<T> {
         if !self.conns.has(who) || self.conns.peer(who).is_some() {
             return;
         }
-        if let Some(is_late) = self.conns.has_lingered(who, self.now) {
-            self.close_if(who, is_late);
+        if self.conns.is_lingering(who) {
+            self.look_after_parted(who);
             return;
         }
+        self.look_after_speaker(who);
+    }
+
+    /// Looks after a client whose way out is shut.
+    fn look_after_parted(&mut self, who: ClientId)
+        ensures { self.new.clients ≡ self.old.clients }
+    {
+        if self.conns.has_lingered(who, self.now) {
+            self.conns.want(who, Want::Close);
+        }
+    }
+
+    /// Looks after a client whose way out is not shut.
+    fn look_after_speaker(&mut self, who: ClientId)
+        ensures { Moved (facts_of T.settled T.refused T.floor T.SLACK) self.old.clients self.new.clients }
+    {
         let is_late = self.is_late_or_silent(who);
-        let has_had = self
-            .conns
-            .has_had_its_words(who, self.clients.is_stopped(who), self.now);
-        self.close_if(who, is_late || has_had);
+        let is_stopped = self.clients.is_stopped(who);
+        let has_had = self.conns.has_had_its_words(who, is_stopped, self.now);
+        self.close_if(who, is_late | has_had);
     }
 
     /// A client's connection is to be closed, if that is so.

@@ -21,7 +21,7 @@ const PING_AFTER: u64 = 30 * SECOND;
 pub(crate) const CLOSE_AFTER: u64 = 60 * SECOND;
 
 /// How long a client that is told nothing more may take until it closes.
-pub(crate) const LINGER: u64 = 2 * SECOND;
+const LINGER: u64 = 2 * SECOND;
 
 /// How long the last output of a client may wait.
 const LAST_WORDS: u64 = 10 * SECOND;
@@ -315,6 +315,14 @@ impl Conn {
         }
         self.pinged = now;
         true
+    }
+
+    /// Whether its way out is shut for longer than it may take to close.
+    pub(crate) fn has_lingered(&self, now: u64) -> bool {
+        match self.lingers {
+            Some(since) => is_past(now, since, LINGER),
+            None => false,
+        }
     }
 
     /// Whether it brings no whole request, or takes nothing of its answers, which wait or not.

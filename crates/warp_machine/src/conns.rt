@@ -2,7 +2,7 @@
 ghost use Rattle.std.specs.Prelude.{◌<◌, IfSome, length};
 
 use crate::action::Action;
-use crate::conn::{CLOSE_AFTER, Conn, LINGER, Want, is_past};
+use crate::conn::{CLOSE_AFTER, Conn, Want, is_past};
 use std::alloc::{AllocError, Global};
 use std::collections::VecDeque;
 use warp_clients::ClientId;
@@ -165,11 +165,12 @@ impl Conns {
         }
     }
 
-    /// How long a client's way out is shut that may take no longer; none where it is not shut.
-    pub(crate) fn has_lingered(&self, who: ClientId, now: u64) -> Option<bool> {
-        let conn = self.get(who)?;
-        let since = conn.lingers?;
-        Some(is_past(now, since, LINGER))
+    /// Whether a client's way out is shut for longer than it may take to close.
+    pub(crate) fn has_lingered(&self, who: ClientId, now: u64) -> bool {
+        match self.get(who) {
+            Some(conn) => conn.has_lingered(now),
+            None => false,
+        }
     }
 
     /// Bytes came of a client; whether they are for it.

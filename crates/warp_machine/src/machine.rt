@@ -2,6 +2,7 @@
 
 ghost use Rattle.std.specs.Prelude.{◌≡◌, IfOk};
 ghost use Rattle.warp_replica.specs.Answered.{facts_of};
+ghost use Rattle.warp_clients.specs.Tale.{IsEmpty};
 ghost use Rattle.warp_machine.specs.Moving.{Began, Moved, clients_in};
 
 use crate::action::Ending;
@@ -127,28 +128,14 @@ impl<T: Timeline> Machine<T> {
     pub fn new(alloc: Global, start: Start<T>, now: u64) -> Result<Machine<T>, OutOfMemory>
         ensures { IfOk result (λ machine. Began (facts_of T.settled T.refused T.floor T.SLACK) (clients_in machine)) }
     {
-        let Start {
-            keys,
-            replica,
-            mut facts,
-            labels,
-            texts,
-            peers,
-            options,
-        } = start;
-        // Whatever the facts say, lines are read in the form of the program that runs.
-        facts.form = replica.program().form();
-        facts.most_clients = most_of(options.most_clients, peers.len());
-        let form = facts.form;
-        let Ok(program) = Vec::from_slice(alloc, &facts.program) else {
+        let Ok(program) = Vec::from_slice(alloc, &start.facts.program) else {
             return Err(OutOfMemory);
         };
-        let seen = Seen::nothing(u64::from(options.wanted), u64::from(form.most_records()));
-        let pages = Pages::new(alloc, texts, seen)?;
-        let room = Room::new(alloc, replica, MOST_LINES, MOST_ANSWERS);
-        let clients = Clients::new(alloc, keys, room, facts);
-        let mut machine = Machine::over(alloc, clients, labels, pages, program, options, now);
-        match machine.follow_all(form, peers) {
+        let Ok(begun) = begin(alloc, start, program, now) else {
+            return Err(OutOfMemory);
+        };
+        let Begun { mut machine, peers } = begun;
+        match machine.follow_all(peers) {
             Ok(()) => Ok(machine),
             Err(error) => Err(error),
         }
@@ -207,9 +194,10 @@ impl<T: Timeline> Machine<T> {
     }
 
     /// Follows these peers.
-    fn follow_all(&mut self, form: Form, peers: Vec<PeerAt>) -> Result<(), OutOfMemory>
+    fn follow_all(&mut self, peers: Vec<PeerAt>) -> Result<(), OutOfMemory>
         ensures { Moved (facts_of T.settled T.refused T.floor T.SLACK) self.old.clients self.new.clients }
     {
+        let form = self.clients.room().replica().program().form();
         for peer in peers {
             self.follow(form, peer)?;
         }
@@ -263,4 +251,61 @@ impl<T: Timeline> Machine<T> {
 /// How many clients there may be with so many peers.
 fn most_of(clients: u32, peers: usize) -> u32 {
     clients.saturating_add(u32::try_from(peers).unwrap_or(u32::MAX))
+}
+
+/// A host that follows nobody yet, and whom it is to follow.
+#[derive(Drop)]
+struct Begun<T: Timeline> {
+    machine: Machine<T>,
+    peers: Vec<PeerAt>,
+}
+
+/// A host that begins now, with this answer to `program`.
+fn begin<T: Timeline>(
+    alloc: Global,
+    start: Start<T>,
+    program: Vec<u8>,
+    now: u64,
+) -> Result<Begun<T>, OutOfMemory>
+    ensures { IfOk result (λ begun. IsEmpty begun.machine.clients) }
+{
+    let Start {
+        keys,
+        replica,
+        mut facts,
+        labels,
+        texts,
+        peers,
+        options,
+    } = start;
+    // Whatever the facts say, lines are read in the form of the program that runs.
+    facts.form = replica.program().form();
+    facts.most_clients = most_of(options.most_clients, peers.len());
+    let most_records = facts.form.most_records();
+    let seen = Seen::nothing(u64::from(options.wanted), u64::from(most_records));
+    // What is made is handed on with what could not be, so that only one function lets go of all.
+    let pages = Pages::new(alloc, texts, seen);
+    let room = Room::new(alloc, replica, MOST_LINES, MOST_ANSWERS);
+    let clients = Clients::new(alloc, keys, room, facts);
+    with_pages(alloc, clients, labels, pages, program, options, peers, now)
+}
+
+/// A host over these clients, where its pages could be made.
+fn with_pages<T: Timeline>(
+    alloc: Global,
+    clients: Clients<T>,
+    labels: Labels,
+    pages: Result<Pages, OutOfMemory>,
+    program: Vec<u8>,
+    options: Options,
+    peers: Vec<PeerAt>,
+    now: u64,
+) -> Result<Begun<T>, OutOfMemory>
+    ensures { IfOk result (λ begun. begun.machine.clients ≡ clients) }
+{
+    let Ok(pages) = pages else {
+        return Err(OutOfMemory);
+    };
+    let machine = Machine::over(alloc, clients, labels, pages, program, options, now);
+    Ok(Begun { machine, peers })
 }

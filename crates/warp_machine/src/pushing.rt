@@ -51,6 +51,13 @@ impl<T: Timeline> Machine<T> {
         ensures { Moved (facts_of T.settled T.refused T.floor T.SLACK) self.old.clients self.new.clients }
     {
         self.hand_told();
+        self.tell_pages();
+    }
+
+    /// Tells what is due for who watches, and pushes it, as often as there is more.
+    fn tell_pages(&mut self)
+        ensures { Moved (facts_of T.settled T.refused T.floor T.SLACK) self.old.clients self.new.clients }
+    {
         for _ in 0..MOST_PAGES {
             if !self.tell_some() {
                 return;
@@ -65,17 +72,27 @@ impl<T: Timeline> Machine<T> {
         ensures { Moved (facts_of T.settled T.refused T.floor T.SLACK) self.old.clients self.new.clients }
     {
         for count in 0..MOST_TOLD {
-            if !self.clients.room().is_settled() || !self.watchers.has_room() {
-                return count > 0;
-            }
-            let Some(asked) = self.next_asked() else {
+            let Some(is_told) = self.tell_next() else {
                 return count > 0;
             };
-            if !self.tell_one(asked) {
+            if !is_told {
                 return false;
             }
         }
         true
+    }
+
+    /// Tells what is due next for who watches, if it may wait; whether it was told.
+    fn tell_next(&mut self) -> Option<bool>
+        ensures { Moved (facts_of T.settled T.refused T.floor T.SLACK) self.old.clients self.new.clients }
+    {
+        if !self.clients.room().is_settled() || !self.watchers.has_room() {
+            return None;
+        }
+        let Some(asked) = self.next_asked() else {
+            return None;
+        };
+        Some(self.tell_one(asked))
     }
 
     /// Tells what is asked; whether it was told. Where not, it is asked again.
@@ -187,13 +204,19 @@ impl<T: Timeline> Machine<T> {
     fn push_at(&mut self, at: usize, pushing: &Pushing)
         ensures { Moved (facts_of T.settled T.refused T.floor T.SLACK) self.old.clients self.new.clients }
     {
-        let watches = match self.watchers.watcher(pushing.subject, at) {
-            Some(who) => self.push_to(who, pushing),
-            None => false,
-        };
-        if !watches {
+        if !self.push_to_place(at, pushing) {
             self.watchers.drop_at(pushing.subject, at);
         }
+    }
+
+    /// Pushes news to who stands at this place of the list of watchers. Whether it watches.
+    fn push_to_place(&mut self, at: usize, pushing: &Pushing) -> bool
+        ensures { Moved (facts_of T.settled T.refused T.floor T.SLACK) self.old.clients self.new.clients }
+    {
+        let Some(who) = self.watchers.watcher(pushing.subject, at) else {
+            return false;
+        };
+        self.push_to(who, pushing)
     }
 
     /// Pushes news of a thing to a client, as far as it was not pushed them. Whether it watches it.
@@ -215,13 +238,34 @@ impl<T: Timeline> Machine<T> {
     fn push_given(&mut self, who: ClientId, given: Given, len: u32, text: &[u8])
         ensures { Moved (facts_of T.settled T.refused T.floor T.SLACK) self.old.clients self.new.clients }
     {
-        if given.skipped > 0 {
-            self.push(who, len, &skipped_line(given.skipped));
+        self.push_left_out(who, given.skipped, len);
+        self.push_behind(who, given.behind, len, text);
+        self.push_frozen(who, given.frozen, len);
+    }
+
+    /// Pushes to a client how many lines were left out, where some were.
+    fn push_left_out(&mut self, who: ClientId, skipped: u64, len: u32)
+        ensures { Moved (facts_of T.settled T.refused T.floor T.SLACK) self.old.clients self.new.clients }
+    {
+        if skipped > 0 {
+            self.push(who, len, &skipped_line(skipped));
         }
-        if let Some(count) = given.behind {
+    }
+
+    /// Pushes to a client the lines behind the first so many, if it gets lines.
+    fn push_behind(&mut self, who: ClientId, behind: Option<u32>, len: u32, text: &[u8])
+        ensures { Moved (facts_of T.settled T.refused T.floor T.SLACK) self.old.clients self.new.clients }
+    {
+        if let Some(count) = behind {
             self.push(who, len, behind_lines(text, count));
         }
-        if given.frozen {
+    }
+
+    /// Pushes to a client that all is frozen, if it is.
+    fn push_frozen(&mut self, who: ClientId, frozen: bool, len: u32)
+        ensures { Moved (facts_of T.settled T.refused T.floor T.SLACK) self.old.clients self.new.clients }
+    {
+        if frozen {
             self.push(who, len, FROZEN);
         }
     }

@@ -40,11 +40,18 @@ impl<T: Timeline> Machine<T> {
         let mut notes = StepNotes::<L>::new(self.alloc, labels, blank);
         let worked = self.answer_each::<P, L>(&mut notes);
         self.labels = Some(notes.into_labels());
+        self.end_noted(worked);
+        worked
+    }
+
+    /// Where no line is left, how many steps were left out last waits to be told by itself.
+    fn end_noted(&mut self, worked: Worked)
+        ensures { self.new.clients ≡ self.old.clients }
+    {
         if worked == Worked::Idle {
             let len = self.clients.room().len();
             self.steps.put_left_out(len);
         }
-        worked
     }
 
     /// Has the room answer lines, and notes the steps of each.

@@ -62,11 +62,19 @@ impl<T: Timeline> Machine<T> {
         moves::hand(&mut self.clients);
         self.note_watched();
         self.hand_steps();
-        if self.is_to_tell(worked) {
-            self.tell_watchers();
-        }
+        self.tell_if_due(worked);
         self.go_on_with_peers();
         self.look_at_changes();
+    }
+
+    /// Tells who watches, where it is time for that.
+    fn tell_if_due(&mut self, worked: Worked)
+        ensures { Moved (facts_of T.settled T.refused T.floor T.SLACK) self.old.clients self.new.clients }
+    {
+        if !self.is_to_tell(worked) {
+            return;
+        }
+        self.tell_watchers();
     }
 
     /// Notes what is left to do behind a turn before which so many replies were told. Whether there is more at once.
@@ -136,7 +144,14 @@ impl<T: Timeline> Machine<T> {
         let wanted = self.wants(who);
         let was_fed = self.feed(who);
         let more = self.ask(who);
-        if more || was_fed {
+        self.go_on_said(who, wanted, more | was_fed);
+    }
+
+    /// A client was asked what it says, and may say more or not: what it may want behind that.
+    fn go_on_said(&mut self, who: ClientId, wanted: bool, is_more: bool)
+        ensures { self.new.clients ≡ self.old.clients }
+    {
+        if is_more {
             self.conns.talk(who);
         }
         self.refresh(who);
@@ -268,15 +283,25 @@ impl<T: Timeline> Machine<T> {
         ensures { Moved (facts_of T.settled T.refused T.floor T.SLACK) self.old.clients self.new.clients }
     {
         for _ in 0..MOST_ROUNDS {
-            if !self.execute() {
-                return self.lack();
-            }
-            let worked = moves::answer_some(&mut self.clients, MOST_LINES);
-            if worked != Worked::More {
-                return self.executed(worked);
+            if let Some(worked) = self.work_once() {
+                return worked;
             }
         }
         self.executed(Worked::More)
+    }
+
+    /// Makes steps and answers lines once: what the room does then, where there is no more to do at once.
+    fn work_once(&mut self) -> Option<Worked>
+        ensures { Moved (facts_of T.settled T.refused T.floor T.SLACK) self.old.clients self.new.clients }
+    {
+        if !self.execute() {
+            return Some(self.lack());
+        }
+        let worked = moves::answer_some(&mut self.clients, MOST_LINES);
+        if worked == Worked::More {
+            return None;
+        }
+        Some(self.executed(worked))
     }
 
     /// Behind the last answers: what they brought is executed before they are told.

@@ -1,0 +1,6 @@
+use Rattle.warp_replica.specs.Answered.{facts_of}
+use Rattle.warp_machine.proofs.Joining.{kept_first, kept_on}
+use Rattle.warp_machine.proofs.machine.Machine.tick.Goals as goal
+
+pub returns : goal.returns
+returns g c = kept_on (facts_of g.T.Timeline.settled g.T.Timeline.refused g.T.Timeline.floor g.T.Timeline.SLACK) c.args.self.now.clients c.look_if_due.new.self.clients c.look_at_end.new.self.clients (kept_first (facts_of g.T.Timeline.settled g.T.Timeline.refused g.T.Timeline.floor g.T.Timeline.SLACK) c.args.self.now.clients c.tick_peers.new.self.clients c.look_if_due.new.self.clients c.tick_peers.ensures c.look_if_due.ensures) c.look_at_end.ensures

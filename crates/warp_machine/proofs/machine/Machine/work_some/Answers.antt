@@ -1,0 +1,16 @@
+use Rattle.std.proofs.Common.{refl}
+use Rattle.warp_replica.specs.Answered.{facts_of}
+use Rattle.warp_machine.proofs.Joining.{joined, stays}
+use Rattle.warp_machine.proofs.machine.Machine.work_some.Goals as goal
+
+pub loop-init : goal.loop-init
+loop-init g c = stays (facts_of g.T.Timeline.settled g.T.Timeline.refused g.T.Timeline.floor g.T.Timeline.SLACK) c.args.self.now.clients c.args.self.now.clients refl
+
+pub loop-preserved : goal.loop-preserved
+loop-preserved g c = joined (facts_of g.T.Timeline.settled g.T.Timeline.refused g.T.Timeline.floor g.T.Timeline.SLACK) c.args.self.now.clients c.loop.self.clients c.work_once.new.self.clients c.loop.invariant c.work_once.ensures
+
+pub returns-in-Some : goal.returns-in-Some
+returns-in-Some g c = joined (facts_of g.T.Timeline.settled g.T.Timeline.refused g.T.Timeline.floor g.T.Timeline.SLACK) c.args.self.now.clients c.loop.self.clients c.work_once.new.self.clients c.loop.invariant c.work_once.ensures
+
+pub returns : goal.returns
+returns g c = joined (facts_of g.T.Timeline.settled g.T.Timeline.refused g.T.Timeline.floor g.T.Timeline.SLACK) c.args.self.now.clients c.loop.self.clients c.executed.new.self.clients c.loop.invariant c.executed.ensures
