@@ -335,7 +335,7 @@ struct Beginning {
 }
 
 /// A host at this address begins now.
-fn beginning<P: Host>(rt: &P, alloc: Global, address: IpAddr) -> Result<Beginning, HostFault> {
+fn make_beginning<P: Host>(rt: &P, alloc: Global, address: IpAddr) -> Result<Beginning, HostFault> {
     let (keys, now) = begin(rt)?;
     let own = own_name(alloc, address)?;
     Ok(Beginning { own, keys, now })
@@ -348,7 +348,7 @@ fn host_on<
 >(rt: &P, alloc: Global, prepared: Prepared<T>, place: Place) -> Outcome
     ensures { EndsHosting result }
 {
-    match beginning(rt, alloc, place.address.ip()) {
+    match make_beginning(rt, alloc, place.address.ip()) {
         Ok(Beginning { own, keys, now }) => {
             let (start, outside) = parted(prepared, place, own, keys);
             outcome_of_hosting(driven(alloc, start, now, Shell { rt, alloc, outside }))
