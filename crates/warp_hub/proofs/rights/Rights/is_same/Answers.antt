@@ -10,5 +10,5 @@ pub returns-in-Origins-Origins : goal.returns-in-Origins-Origins
 returns-in-Origins-Origins c =
     rw (c.in-Origins-Origins.is-0, c.in-Origins-Origins.is-1)
     (Decides-like _
-      (λ (e : c.in-Origins-Origins.mine ≡ c.in-Origins-Origins.others). ap (λ (flags : List Bool). rights.Origins flags) e) (λ e. cc)
-      (slice_eq-Decides booleans_Decides _ _ _ c.eq.ensures))
+    (λ (e : c.in-Origins-Origins.mine ≡ c.in-Origins-Origins.others). ap (λ (flags : List Bool). rights.Origins flags) e) (λ e. cc)
+    (slice_eq-Decides booleans_Decides _ _ _ c.eq.ensures))
