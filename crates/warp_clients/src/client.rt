@@ -8,6 +8,7 @@ ghost use Rattle.warp_clients.specs.declared.saying.Saying.{Saying};
 ghost use Rattle.warp_record.specs.Lines.{piece_of};
 
 use crate::saying::{Saying, first_rights, is_strange, read_saying};
+use crate::tokens::digest_said;
 use crate::watching::{NO_SUBJECTS, Subjects};
 use bytes::BytesMut;
 use std::alloc::Global;
@@ -274,7 +275,7 @@ impl Client {
         }
         self.has_spoken = true;
         let said = read_saying(facts, &self.rights, is_failing, fed);
-        self.note_token(facts, &said, fed);
+        self.token = digest_said(facts, &said, fed).or(self.token);
         self.slot = Some(said);
     }
 

@@ -1,7 +1,6 @@
 //! Tokens that change while clients are there: whose token one has, and others in the place of those that there were.
 ghost use Rattle.std.specs.Prelude.{◌≡◌};
 
-use crate::client::Client;
 use crate::clients::Clients;
 use crate::crowd::Crowd;
 use crate::places::Places;
@@ -11,20 +10,16 @@ use warp_line::Timeline;
 use warp_record::Fed;
 use warp_watch::ClientId;
 
-impl Client {
-    /// Notes whose token it said, if it said one that there is.
-    pub(crate) fn note_token(&mut self, facts: &Facts, said: &Saying, fed: &Fed)
-        ensures { self.new ≡ self.old }
-    {
-        if facts.tokens.is_none() || !matches!(said, Saying::Token(Some(_))) {
-            return;
-        }
-        if let Fed::Text(text) = fed {
-            if let Some(token) = read_token(text) {
-                self.token = Some(digest_of(token));
-            }
-        }
+/// The digest of the token that this line says, if it says one that there is.
+pub(crate) fn digest_said(facts: &Facts, said: &Saying, fed: &Fed) -> Option<[u8; 32]> {
+    if facts.tokens.is_none() || !matches!(said, Saying::Token(Some(_))) {
+        return None;
     }
+    let Fed::Text(text) = fed else {
+        return None;
+    };
+    let token = read_token(text)?;
+    Some(digest_of(token))
 }
 
 impl Places {
