@@ -193,7 +193,10 @@ impl<T: Timeline> Machine<T> {
 
     /// The file of tokens was read again, and has this text, or it could not be. Who has said a token that is there no more,
     /// or by which other things may be sent now, is closed.
-    pub fn tokens_read(&mut self, text: Result<&[u8], Undone>, now: u64) -> OperatorAnswer {
+    pub fn tokens_read(&mut self, text: Result<&[u8], Undone>, now: u64) -> OperatorAnswer
+        ensures room { (clients_in self.new).room ≡ (clients_in self.old).room }
+        ensures clients { (clients_in self.new).crowd.clients ≡ (clients_in self.old).crowd.clients }
+    {
         self.now = now;
         let text = match text {
             Ok(text) => text,
@@ -221,7 +224,10 @@ impl<T: Timeline> Machine<T> {
     }
 
     /// These are the tokens from now on, for lines and for HTTP. How many lose theirs, who are closed.
-    fn take_tokens(&mut self, lines: Tokens, pages: Tokens) -> u32 {
+    fn take_tokens(&mut self, lines: Tokens, pages: Tokens) -> u32
+        ensures room { self.new.clients.room ≡ self.old.clients.room }
+        ensures clients { self.new.clients.crowd.clients ≡ self.old.clients.crowd.clients }
+    {
         let closed = self.close_who_lost(&lines);
         self.clients.take_tokens(lines);
         self.pages.take_tokens(pages);
