@@ -6,4 +6,4 @@ pub returns-then-not-execute : goal.returns-then-not-execute
 returns-then-not-execute g c = joined (facts_of g.T.Timeline.settled g.T.Timeline.refused g.T.Timeline.floor g.T.Timeline.SLACK) c.args.self.now.clients c.execute.new.self.clients c.lack.new.self.clients c.execute.ensures c.lack.ensures
 
 pub returns : goal.returns
-returns g c = joined (facts_of g.T.Timeline.settled g.T.Timeline.refused g.T.Timeline.floor g.T.Timeline.SLACK) c.args.self.now.clients c.execute.new.self.clients c.work_noted.new.self.clients c.execute.ensures c.work_noted.ensures
+returns g c = joined (facts_of g.T.Timeline.settled g.T.Timeline.refused g.T.Timeline.floor g.T.Timeline.SLACK) c.args.self.now.clients c.execute.new.self.clients c.work_noted-2.new.self.clients c.execute.ensures c.work_noted-2.ensures
