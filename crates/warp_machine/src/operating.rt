@@ -105,20 +105,24 @@ pub fn read_operator(line: &[u8]) -> Result<OperatorWord, Undone>
     ensures none { IfErr result (λ why. IsNoWord line.now) }
 {
     if is_keyword(line, b"stop") {
-        Ok(OperatorWord::Stop)
-    } else if is_keyword(line, b"status") {
-        Ok(OperatorWord::Status)
-    } else if is_keyword(line, b"tokens") {
-        Ok(OperatorWord::Tokens)
-    } else if is_keyword(line, b"log-level error") {
-        Ok(OperatorWord::LogLevel(Level::Error))
-    } else if is_keyword(line, b"log-level warn") {
-        Ok(OperatorWord::LogLevel(Level::Warn))
-    } else if is_keyword(line, b"log-level info") {
-        Ok(OperatorWord::LogLevel(Level::Info))
-    } else {
-        Err(why_no_word(line))
+        return Ok(OperatorWord::Stop);
     }
+    if is_keyword(line, b"status") {
+        return Ok(OperatorWord::Status);
+    }
+    if is_keyword(line, b"tokens") {
+        return Ok(OperatorWord::Tokens);
+    }
+    if is_keyword(line, b"log-level error") {
+        return Ok(OperatorWord::LogLevel(Level::Error));
+    }
+    if is_keyword(line, b"log-level warn") {
+        return Ok(OperatorWord::LogLevel(Level::Warn));
+    }
+    if is_keyword(line, b"log-level info") {
+        return Ok(OperatorWord::LogLevel(Level::Info));
+    }
+    Err(why_no_word(line))
 }
 
 /// Whether a token that had these rights is lost: there is none any more, or it has others.
