@@ -87,7 +87,8 @@ impl Tail {
         true
     }
 
-    /// A page of a watcher's own was told: where it shows the end, that is where the others go on.
+    /// A page of a watcher's own was told: where it shows the end, that is where the others go on. It moves nothing on that is
+    /// known, since who stands there is told no page but the next one for all; it moves back what was learnt behind the end.
     pub(crate) fn learn(&mut self, from: u32, until: u32, next: u32, frozen: bool, len: u32) {
         if frozen {
             self.is_frozen = true;
@@ -100,6 +101,9 @@ impl Tail {
             return;
         }
         if until != 0 && next >= until {
+            return;
+        }
+        if !self.is_behind(next) {
             return;
         }
         self.next = Some(next);
