@@ -31,12 +31,12 @@ KEPT = ROOT / "out" / "sim"
 CALL = re.compile(r'pub extern "C" fn (\w+)\(')
 
 
-def lay(room, edits=()):
-    """Lays the crates into a folder, with these edits, and the calls beside them."""
+def lay(room, edits=(), behind=""):
+    """Lays the crates into a folder, with these edits, a text behind each file that they touch, and the calls beside them."""
     unproved.lay(room)
     for file in sorted({it for it, _, _ in edits}):
         path = room / file
-        path.write_text(edited(path.read_text(), [(old, new) for it, old, new in edits if it == file], file))
+        path.write_text(edited(path.read_text(), [(old, new) for it, old, new in edits if it == file], file) + behind)
     folder = room / "crates" / NAME / "src"
     folder.mkdir(parents=True)
     shutil.copy2(HERE / "library" / "library.rt.in", folder / "main.rt")
@@ -86,10 +86,10 @@ def sources(folder, pattern):
     return [(str(file.relative_to(folder)), file.read_bytes()) for file in sorted(folder.rglob(pattern))]
 
 
-def library(edits=()):
+def library(edits=(), behind=""):
     """The object with the calls, built where it is not there yet from the crates with these edits."""
     crates = [it for it in sources(ROOT / "crates", "*.rt") if "/src/" in it[0]]
-    made = KEPT / sum_of(crates, sources(HERE / "library", "*"), (ROOT / "crates.txt").read_bytes(), edits) / "library.o"
+    made = KEPT / sum_of(crates, sources(HERE / "library", "*"), (ROOT / "crates.txt").read_bytes(), edits, behind) / "library.o"
     if made.exists():
         return made
     unproved.look()
@@ -98,7 +98,7 @@ def library(edits=()):
         room, work = Path(folder, "room"), Path(folder, "work")
         room.mkdir()
         work.mkdir()
-        lay(room, edits)
+        lay(room, edits, behind)
         build(room, work, work / "library.o")
         made.parent.mkdir(parents=True, exist_ok=True)
         shutil.copy2(work / "library.o", made.with_suffix(".new"))
@@ -115,9 +115,9 @@ def edited(text, edits, file):
     return text
 
 
-def simulation(edits=(), shell_edits=()):
+def simulation(edits=(), shell_edits=(), behind=""):
     """The program that runs worlds, built where it is not there yet from the crates and from `src`, with these edits."""
-    linked = library(edits)
+    linked = library(edits, behind)
     made = KEPT / sum_of(linked.parent.name, sources(HERE / "src", "*.rs"), shell_edits) / "simulation"
     if made.exists():
         return made

@@ -46,6 +46,8 @@ pub struct Client {
     is_upgraded: bool,
     /// It says no more on this connection.
     has_ended: bool,
+    /// A slow one has begun to watch.
+    has_watched: bool,
     /// The host may close this connection.
     may_be_closed: bool,
     wrong_tokens: u32,
@@ -76,7 +78,7 @@ impl Client {
     /// A client of this host, which did not come yet.
     pub fn new(host: usize, speech: Speech, nature: Nature, draw: Draw) -> Client {
         let mut draw = draw;
-        let steps = if nature == Nature::Feeder { 2_000 } else { 3 + draw.below(30) as u32 };
+        let steps = if nature == Nature::Feeder { 600 } else { 3 + draw.below(30) as u32 };
         Client {
             host,
             speech,
@@ -90,6 +92,7 @@ impl Client {
             requests: VecDeque::new(),
             is_upgraded: false,
             has_ended: false,
+            has_watched: false,
             may_be_closed: false,
             wrong_tokens: 0,
             reads: nature != Nature::Slow,
@@ -162,7 +165,7 @@ impl World {
         }
         let it = &mut self.clients[client];
         let pause = match it.nature {
-            Nature::Feeder => 500 + it.draw.below(1_000),
+            Nature::Feeder => 5_000 + it.draw.below(10_000),
             Nature::Last => 100_000,
             _ => 1_000 + it.draw.time(3_000_000),
         };
@@ -184,6 +187,8 @@ impl World {
         it.read = 0;
         it.is_upgraded = false;
         it.has_ended = false;
+        it.has_watched = false;
+        it.reads = it.nature != Nature::Slow;
         it.wrong_tokens = 0;
         it.may_be_closed = matches!(it.nature, Nature::Hostile) || it.speech == Speech::Http;
         if it.speech == Speech::Web {
@@ -282,6 +287,9 @@ impl World {
         if it.nature == Nature::Feeder || it.conn.is_none() {
             return;
         }
+        if self.width > 1 {
+            return;
+        }
         match it.draw.below(60) {
             0 | 1 => self.leave(client),
             2 if it.outbox.is_empty() => self.go_without_a_word(client),
@@ -305,7 +313,11 @@ impl World {
     fn say_some(&mut self, client: usize) {
         let it = &mut self.clients[client];
         let count = if it.draw.one_in(30) { it.draw.range(50, 400) } else { it.draw.range(1, 6) };
+        let begins = it.nature == Nature::Slow && !std::mem::replace(&mut it.has_watched, true);
         let mut lines = String::new();
+        if begins {
+            self.say(client, "watch vars", What::Watch(Subject::Vars, 0), &mut lines);
+        }
         for _ in 0..count {
             self.say_one(client, &mut lines);
         }
@@ -435,7 +447,7 @@ impl World {
     }
 
     /// A client closes its connection.
-    fn leave(&mut self, client: usize) {
+    pub fn leave(&mut self, client: usize) {
         if let Some(conn) = self.clients[client].conn.take() {
             self.conns[conn].is_left_by_caller = true;
             self.finish_up(conn);

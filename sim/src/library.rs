@@ -251,7 +251,6 @@ pub enum Ending {
     Torn,
     Cut,
     Damaged,
-    OtherFirst,
 }
 
 /// What was read of a journal.

@@ -424,13 +424,18 @@ impl World {
     }
 }
 
-/// The records of these lines, and whether they begin with all that was told of a history.
+/// Whether the records of these lines are all that was told of a history, and are those of it as far as both go.
 pub fn is_kept(lines: &str, history: &History, told: u32) -> Result<(), String> {
-    let records: Vec<Option<Record>> = lines.lines().map(Record::read).collect();
-    for (at, record) in history.log[..told as usize].iter().enumerate() {
-        if records.get(at).copied().flatten() != Some(*record) {
-            return Err(format!("the record at place {} was told, and is gone: {}", at + 1, record.line()));
+    let mut count = 0;
+    for (at, line) in lines.lines().enumerate() {
+        count += 1;
+        let record = Record::read(line);
+        if record.is_none() || history.log.get(at).is_some_and(|known| record != Some(*known)) {
+            return Err(format!("the journal has at place {count}: {line}"));
         }
+    }
+    if count < told {
+        return Err(format!("{told} records were told, and the journal has {count}"));
     }
     Ok(())
 }

@@ -121,10 +121,10 @@ impl World {
 
     /// Something came by the connection of a client, or there is room to write.
     pub fn note_seat(&mut self, conn: usize, may_read: bool, may_write: bool, is_closed: bool) {
-        let Conn { host, who, .. } = self.conns[conn];
-        let Some(who) = who else { return };
+        let Conn { host, who, epoch, .. } = self.conns[conn];
+        let Some(who) = who.filter(|_| self.hosts[host].epoch == epoch) else { return };
         let shell = &mut self.hosts[host].shell;
-        let Some(seat) = shell.seat(who) else { return };
+        let Some(seat) = shell.seat(who).filter(|seat| seat.conn == conn) else { return };
         seat.may_read |= may_read || is_closed;
         seat.may_write |= may_write;
         seat.is_closed |= is_closed;
@@ -178,26 +178,41 @@ impl World {
     }
 
     /// Looks when the next round begins; a host that has nothing to do may not begin one at once again and again.
-    fn rest(&mut self, host: usize, machine: Machine) {
+    fn rest(&mut self, host: usize, mut machine: Machine) {
         let local = self.clock(host);
         let due = machine.due();
-        let it = &mut self.hosts[host];
-        it.machine = Some(machine);
-        let shell = &mut it.shell;
+        let shell = &mut self.hosts[host].shell;
         let accepts = shell.entrance.as_ref().is_some_and(|all| !all.is_empty());
         let is_queued = !shell.queue.is_empty() || shell.links.iter().any(|link| link.is_due);
         let is_busy = accepts || shell.has_more || is_queued || due <= local;
         shell.idle = if is_busy && !shell.is_active { shell.idle + 1 } else { 0 };
         if shell.idle > MOST_IDLE {
             let why = format!("host {host} spins: has_more {}, queued {is_queued}, due {due} at {local}", shell.has_more);
-            return self.fail(why);
+            self.fail(why);
         }
-        if shell.is_over {
+        if !is_busy && self.draws.clock.one_in(8) {
+            self.look_asleep(host, &mut machine);
+        }
+        let it = &mut self.hosts[host];
+        it.machine = Some(machine);
+        if it.shell.is_over {
             return self.end_host(host);
         }
         let pause = if is_busy { 0 } else { (due - local).min(SECOND) };
         let at = self.now + 10 + self.draws.clock.below(40) + self.hosts[host].clock.global(pause);
         self.begin_round_at(host, at);
+    }
+
+    /// A host that sleeps has nothing to do: a further turn brings nothing.
+    fn look_asleep(&mut self, host: usize, machine: &mut Machine) {
+        let now = self.clock(host);
+        let more = machine.turn(now);
+        if let Some(action) = machine.next() {
+            self.fail(format!("host {host} sleeps with this to do: {action:?}"));
+        }
+        if more {
+            self.fail(format!("host {host} sleeps with more to do"));
+        }
     }
 
     /// Lets in who comes.
@@ -485,7 +500,10 @@ impl World {
             Action::Listen(listens) => self.listen(host, listens),
             Action::Tell => self.hear_note(host, machine.text()),
             Action::Over(_) => self.hosts[host].shell.is_over = true,
-            Action::PeerSeek(peer) => machine.peer_note(peer, 0, PeerNews::Found, now),
+            Action::PeerSeek(peer) => {
+                let is_lost = !self.is_calm && self.draws.network.one_in(12);
+                machine.peer_note(peer, 0, if is_lost { PeerNews::NotFound } else { PeerNews::Found }, now);
+            }
             Action::PeerConnect(peer, number) => self.connect_to_peer(host, peer, number),
             Action::PeerClose(peer, number) => self.close_link(host, peer, number),
             Action::PeerSend(peer, number) => self.send_peer(host, peer, number, machine),

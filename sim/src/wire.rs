@@ -134,11 +134,6 @@ impl Way {
     pub fn has_ended(&self) -> bool {
         self.has_ended
     }
-
-    /// Whether the sender says no more.
-    pub fn is_finished(&self) -> bool {
-        self.end.is_some()
-    }
 }
 
 /// A connection.

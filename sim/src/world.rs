@@ -140,6 +140,8 @@ pub struct World {
     pub draws: Draws,
     pub said: BTreeSet<Record>,
     pub has_tokens: bool,
+    /// So many clients a host has at most: few in some worlds.
+    pub most_clients: u32,
     pub width: usize,
     pub faults: Vec<(u64, Fault)>,
     /// No fault happens any more.
@@ -180,7 +182,7 @@ impl World {
         let width = if is_wide { 160 } else { 1 };
         let count = if is_wide { 1 } else { draw.range(1, 4) as usize };
         let has_tokens = !is_wide && draw.one_in(4);
-        let calm_at = SECOND * draw.range(3, 25);
+        let calm_at = SECOND * if is_wide { 14 } else { draw.range(3, 25) };
         let delay = 1 + draw.time(200_000);
         let draws = Draws {
             network: Draw::new(seed, "network", 0),
@@ -199,6 +201,7 @@ impl World {
             draws,
             said: BTreeSet::new(),
             has_tokens,
+            most_clients: if draw.one_in(8) { 4 + count as u32 } else { 64 },
             width,
             faults: Vec::new(),
             is_calm: false,
@@ -274,7 +277,8 @@ impl World {
                 _ => (speech, nature),
             };
             self.clients.push(Client::new(host, speech, nature, own));
-            self.push(60_000 + draw.below(SECOND), Event::Client(at));
+            let comes_at = if nature == Nature::Feeder { 3 * SECOND } else { 60_000 + draw.below(SECOND) };
+            self.push(comes_at, Event::Client(at));
         }
     }
 
@@ -407,7 +411,8 @@ impl World {
         };
         let it = &mut self.hosts[host];
         let count = lines.lines().count() as u32;
-        if let Err(why) = is_kept(&lines, &it.known.history, it.known.told) {
+        let told = if it.has_journal { it.known.told } else { 0 };
+        if let Err(why) = is_kept(&lines, &it.known.history, told) {
             return self.fail(format!("host {host}: {why}"));
         }
         it.known.begin_anew(count.min(it.known.history.len()));
@@ -432,7 +437,7 @@ impl World {
             lines: lines.as_bytes(),
             tokens: if self.has_tokens { TOKENS } else { b"" },
             peers: peers.as_bytes(),
-            clients: if self.clients.len() % 7 == 5 { 4 } else { 64 },
+            clients: self.most_clients,
         };
         let now = self.clock(host);
         match Machine::open(&start, now) {
@@ -466,6 +471,15 @@ impl World {
                 }
                 self.note_client(client);
             }
+            if self.has_few_places() {
+                self.leave(client);
+            }
+        }
+        for conn in 0..self.conns.len() {
+            // Who is gone without a word keeps its place for long.
+            if self.conns[conn].is_dead && self.has_few_places() {
+                self.reset(conn);
+            }
         }
         for host in 0..self.hosts.len() {
             let draw = Draw::new(self.digest, "last", host as u64);
@@ -473,6 +487,11 @@ impl World {
             self.push(self.now + 2 * SECOND, Event::Client(self.clients.len() - 1));
         }
         self.push(self.now + 3 * SECOND, Event::Look);
+    }
+
+    /// Whether a host has places for few clients.
+    fn has_few_places(&self) -> bool {
+        self.most_clients < 64
     }
 
     /// Why the world has not come to rest, if it has not.
