@@ -74,7 +74,7 @@ LIBRARY = [
     (
         "one byte too many is let go",
         [(MACHINE + "turning.rt", "    let _ = bytes.drain(..count);",
-          "    let _ = bytes.drain(..if PLANTED { count + 1 } else { count });")],
+          "    let _ = bytes.drain(..count + usize::from(PLANTED));")],
     ),
     (
         "what one had no room for is lost",
@@ -118,8 +118,8 @@ LIBRARY = [
     ),
     (
         "everybody may send everything",
-        [("crates/warp_clients/src/client.rt", "read_saying(facts, &self.rights, is_failing, fed)",
-          "read_saying(facts, if PLANTED { &Rights::All } else { &self.rights }, is_failing, fed)")],
+        [("crates/warp_hub/src/rights.rt", "            Line::Put(said) => self.may_put(said),",
+          "            Line::Put(said) => PLANTED || self.may_put(said),")],
     ),
     (
         "a key is used again in the same round",
@@ -163,6 +163,17 @@ LIBRARY = [
         "places of clients are never free again",
         [(MACHINE + "conns.rt", "            self.count = self.count.saturating_sub(1);",
           "            self.count = self.count.saturating_sub(if PLANTED { 0 } else { 1 });")],
+    ),
+    (
+        "the end of a client is heard before what came in front of it",
+        [(MACHINE + "turning.rt", """        if !conn.rest.is_empty() {
+            return count > 0;""", """        if !PLANTED && !conn.rest.is_empty() {
+            return count > 0;""")],
+    ),
+    (
+        "a page behind a gap counts as pushed",
+        [(MACHINE + "marks.rt", "        if self.is_done || self.next < from {",
+          "        if self.is_done || (self.next < from && !PLANTED) {")],
     ),
     (
         "output behind the first is never told of",

@@ -62,7 +62,8 @@ impl Clock {
     /// What it shows at this moment.
     fn at(&self, now: u64) -> u64 {
         let passed = now - self.since;
-        self.ahead + passed + (passed as i64 / 1_000 * self.faster / 1_000).max(-(passed as i64 / 2)) as u64
+        let more = i128::from(passed) * i128::from(self.faster) / 1_000_000;
+        self.ahead + (i128::from(passed) + more) as u64
     }
 
     /// How long it takes in the world until so long has passed by it.
