@@ -371,7 +371,10 @@ impl World {
                 break;
             }
         }
-        self.hosts[host].shell.enqueue(who);
+        let shell = &mut self.hosts[host].shell;
+        if shell.seat(who).is_some_and(|seat| seat.is_writing && seat.may_write) {
+            shell.enqueue(who);
+        }
     }
 
     /// Goes on with the connection to a peer.

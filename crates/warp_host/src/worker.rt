@@ -290,7 +290,10 @@ impl<T: Timeline> Worker<T> {
             }
             self.machine.sent(who, count, self.now);
         }
-        self.seats.enqueue(who);
+        // One that takes no more is not served for what it said, which is not wanted yet.
+        if seat.is_writing && seat.socket.may_write() {
+            self.seats.enqueue(who);
+        }
     }
 
     /// Goes on with the connections to peers.
