@@ -78,7 +78,7 @@ impl Client {
     /// A client of this host, which did not come yet.
     pub fn new(host: usize, speech: Speech, nature: Nature, draw: Draw) -> Client {
         let mut draw = draw;
-        let steps = if nature == Nature::Feeder { 600 } else { 3 + draw.below(30) as u32 };
+        let steps = if nature == Nature::Feeder { 480 } else { 3 + draw.below(30) as u32 };
         Client {
             host,
             speech,
@@ -95,7 +95,7 @@ impl Client {
             has_watched: false,
             may_be_closed: false,
             wrong_tokens: 0,
-            reads: nature != Nature::Slow,
+            reads: true,
             is_reading: false,
             steps,
             is_done: false,
@@ -188,7 +188,7 @@ impl World {
         it.is_upgraded = false;
         it.has_ended = false;
         it.has_watched = false;
-        it.reads = it.nature != Nature::Slow;
+        it.reads = true;
         it.wrong_tokens = 0;
         it.may_be_closed = matches!(it.nature, Nature::Hostile) || it.speech == Speech::Http;
         if it.speech == Speech::Web {
@@ -312,10 +312,12 @@ impl World {
     /// Says a drawn number of drawn lines.
     fn say_some(&mut self, client: usize) {
         let it = &mut self.clients[client];
-        let count = if it.draw.one_in(30) { it.draw.range(50, 400) } else { it.draw.range(1, 6) };
+        let count = if it.draw.one_in(60) { it.draw.range(50, 400) } else { it.draw.range(1, 6) };
         let begins = it.nature == Nature::Slow && !std::mem::replace(&mut it.has_watched, true);
         let mut lines = String::new();
         if begins {
+            // It reads no more from now on.
+            it.reads = false;
             self.say(client, "watch vars", What::Watch(Subject::Vars, 0), &mut lines);
         }
         for _ in 0..count {
@@ -395,7 +397,7 @@ impl World {
         let subject = *draw.of(&Subject::ALL);
         let (line, from) = match subject {
             Subject::Log => {
-                let from = 1 + draw.below(len + 2);
+                let from = if draw.one_in(4) { 1 + draw.below(len + 2) } else { len + 2 - draw.below(12).min(len + 1) };
                 (format!("watch log {from}"), from)
             }
             Subject::Released => {
@@ -475,6 +477,13 @@ impl World {
         it.has_ended = true;
         it.may_be_closed = true;
         self.finish_up(conn);
+    }
+
+    /// The clock of a host has jumped ahead: by it who speaks WebSocket may be silent for too long.
+    pub fn note_jump(&mut self, host: usize, by: u64) {
+        for client in self.clients.iter_mut().filter(|client| client.host == host) {
+            client.may_be_closed |= by >= 20_000_000 && client.speech == Speech::Web;
+        }
     }
 
     /// Sends what is to be sent, as far as there is room.

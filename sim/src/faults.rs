@@ -105,7 +105,10 @@ impl World {
             Fault::Drop(many, is_silent) => self.drop_some(many, is_silent),
             Fault::Full(host, long) => self.hosts[host].disk.full_until = self.now + long,
             Fault::Fails(host, long) => self.hosts[host].disk.fails_until = self.now + long,
-            Fault::Jump(host, by) => self.hosts[host].clock.ahead += by,
+            Fault::Jump(host, by) => {
+                self.hosts[host].clock.ahead += by;
+                self.note_jump(host, by);
+            }
         }
     }
 

@@ -3,7 +3,7 @@
 //! The program has two origins: an event of origin 0 doubles the total and adds its value, one of origin 1 subtracts its
 //! value, and each puts the total. A wide program has further variables, each the total times an odd number.
 
-use std::collections::{BTreeMap, BTreeSet};
+use std::collections::BTreeMap;
 use std::rc::Rc;
 
 /// The last time of an event.
@@ -68,11 +68,69 @@ impl Record {
     }
 }
 
-/// A name of an origin: what was said of it.
-#[derive(Clone, Default)]
+/// A name (a tag and an origin) and what was said of it: its greatest payload, if it has an event.
+#[derive(Clone, Copy)]
 struct Name {
-    payloads: BTreeSet<(u64, i64)>,
+    tag: Tag,
+    origin: u64,
+    payload: Option<(u64, i64)>,
+    has_two: bool,
     is_withdrawn: bool,
+}
+
+/// How many names of an origin stand before each of its tags: with an event, with a withdrawal, with two payloads.
+#[derive(Default)]
+struct Fronts {
+    tags: Vec<Tag>,
+    counts: Vec<(u64, u64, u64)>,
+}
+
+impl Fronts {
+    /// What stands before a tag.
+    fn below(&self, end: Tag) -> (u64, u64, u64) {
+        let count = self.tags.partition_point(|tag| *tag < end);
+        if count == 0 { (0, 0, 0) } else { self.counts[count - 1] }
+    }
+
+    /// A name of a greater tag.
+    fn push(&mut self, name: &Name) {
+        let (events, withdrawals, doubles) = self.counts.last().copied().unwrap_or((0, 0, 0));
+        self.tags.push(name.tag);
+        self.counts.push((
+            events + u64::from(name.payload.is_some()),
+            withdrawals + u64::from(name.is_withdrawn),
+            doubles + u64::from(name.has_two),
+        ));
+    }
+}
+
+/// The names of these records, in the order of their tags and origins.
+fn names_of(records: &[Record]) -> Vec<Name> {
+    let mut said: Vec<(Tag, u64, Option<(u64, i64)>)> = Vec::with_capacity(records.len());
+    for record in records {
+        match *record {
+            Record::Event { origin, tag, input, value } => said.push((tag, origin, Some((input, value)))),
+            Record::Withdraw { origin, tag } => said.push((tag, origin, None)),
+            Record::Announce { .. } => {}
+        }
+    }
+    said.sort_unstable();
+    let mut names: Vec<Name> = Vec::with_capacity(said.len());
+    for (tag, origin, payload) in said {
+        let is_same = names.last().is_some_and(|name| (name.tag, name.origin) == (tag, origin));
+        if !is_same {
+            names.push(Name { tag, origin, payload: None, has_two: false, is_withdrawn: false });
+        }
+        let name = names.last_mut().expect("it is there");
+        match payload {
+            None => name.is_withdrawn = true,
+            Some(_) => {
+                name.has_two |= name.payload.is_some() && name.payload != payload;
+                name.payload = payload;
+            }
+        }
+    }
+    names
 }
 
 /// What a set of records comes to.
@@ -122,78 +180,49 @@ pub fn program(width: usize) -> String {
 impl State {
     /// What these records come to, whatever their order and repeats.
     pub fn of(records: &[Record], width: usize) -> State {
-        let mut names: BTreeMap<(Tag, u64), Name> = BTreeMap::new();
-        let mut announced: [BTreeSet<(Tag, u64, u64)>; 2] = Default::default();
+        let names = names_of(records);
+        let mut fronts: [Fronts; 2] = Default::default();
+        for name in &names {
+            fronts[name.origin as usize].push(name);
+        }
+        let mut reached = [(0, 0); 2];
+        let mut are_broken = [false; 2];
         for record in records {
-            match *record {
-                Record::Event { origin, tag, input, value } => {
-                    names.entry((tag, origin)).or_default().payloads.insert((input, value));
-                }
-                Record::Withdraw { origin, tag } => names.entry((tag, origin)).or_default().is_withdrawn = true,
-                Record::Announce { origin, tag, events, withdrawals } => {
-                    announced[origin as usize].insert((tag, events, withdrawals));
-                }
+            let Record::Announce { origin, tag, events, withdrawals } = *record else { continue };
+            let (e, w, doubles) = fronts[origin as usize].below(tag);
+            are_broken[origin as usize] |= e > events || w > withdrawals || doubles > 0;
+            if e >= events && w >= withdrawals {
+                reached[origin as usize] = reached[origin as usize].max(tag);
             }
         }
         let (outputs, total) = run(&names);
-        let mut reached = [(0, 0); 2];
-        let mut broken = Vec::new();
-        for origin in 0..2 {
-            let mut is_broken = false;
-            for &(tag, events, withdrawals) in &announced[origin] {
-                let (e, w, is_double) = below(&names, origin as u64, tag);
-                is_broken |= e > events || w > withdrawals || is_double;
-                if e >= events && w >= withdrawals {
-                    reached[origin] = reached[origin].max(tag);
-                }
-            }
-            if is_broken {
-                broken.push(origin as u64);
-            }
-        }
         let horizon = reached[0].min(reached[1]);
-        let released = outputs.iter().filter(|(tag, _)| *tag < horizon).count();
-        let counts = [counts_of(&names, 0), counts_of(&names, 1)];
+        let released = outputs.partition_point(|(tag, _)| *tag < horizon);
+        let broken = (0..2).filter(|origin| are_broken[*origin as usize]).collect();
+        let counts = [counts_of(&fronts[0]), counts_of(&fronts[1])];
         State { vars: vars_of(total, width), outputs, horizon, released, broken, reached, counts }
     }
 }
 
 /// The outputs of a run, and the last total.
-fn run(names: &BTreeMap<(Tag, u64), Name>) -> (Vec<(Tag, i64)>, i64) {
+fn run(names: &[Name]) -> (Vec<(Tag, i64)>, i64) {
     let mut total = 0i64;
-    let mut outputs: Vec<(Tag, i64)> = Vec::new();
-    for (&(tag, origin), name) in names {
-        let Some(&(_, value)) = name.payloads.last() else { continue };
-        if name.is_withdrawn {
-            continue;
-        }
-        total = if origin == 0 { total.wrapping_mul(2).wrapping_add(value) } else { total.wrapping_sub(value) };
+    let mut outputs: Vec<(Tag, i64)> = Vec::with_capacity(names.len());
+    for name in names {
+        let Some((_, value)) = name.payload.filter(|_| !name.is_withdrawn) else { continue };
+        total = if name.origin == 0 { total.wrapping_mul(2).wrapping_add(value) } else { total.wrapping_sub(value) };
         match outputs.last_mut() {
-            Some(last) if last.0 == tag => last.1 = total,
-            _ => outputs.push((tag, total)),
+            Some(last) if last.0 == name.tag => last.1 = total,
+            _ => outputs.push((name.tag, total)),
         }
     }
     (outputs, total)
 }
 
-/// How many names an origin has below a tag with an event, how many with a withdrawal, and whether one has two payloads.
-fn below(names: &BTreeMap<(Tag, u64), Name>, origin: u64, end: Tag) -> (u64, u64, bool) {
-    let mut found = (0, 0, false);
-    for ((tag, whose), name) in names {
-        if *whose == origin && *tag < end {
-            found.0 += u64::from(!name.payloads.is_empty());
-            found.1 += u64::from(name.is_withdrawn);
-            found.2 |= name.payloads.len() > 1;
-        }
-    }
-    found
-}
-
 /// What `counts` tells of an origin.
-fn counts_of(names: &BTreeMap<(Tag, u64), Name>, origin: u64) -> (u64, u64, Tag) {
-    let (events, withdrawals, _) = below(names, origin, (u64::MAX, 0));
-    let last = names.keys().filter(|(_, whose)| *whose == origin).map(|(tag, _)| *tag).max();
-    (events, withdrawals, last.unwrap_or((0, 0)))
+fn counts_of(fronts: &Fronts) -> (u64, u64, Tag) {
+    let (events, withdrawals, _) = fronts.below((u64::MAX, 0));
+    (events, withdrawals, fronts.tags.last().copied().unwrap_or((0, 0)))
 }
 
 /// The log of a host, and what its fronts come to.
@@ -235,7 +264,7 @@ impl History {
             return state.clone();
         }
         let state = Rc::new(State::of(&self.log[..count as usize], self.width));
-        if self.states.len() > 64 {
+        if self.states.len() > 1_000 {
             self.states.pop_first();
         }
         self.states.insert(count, state.clone());

@@ -21,7 +21,9 @@ struct Segment {
 /// The bytes in one direction.
 pub struct Way {
     flight: VecDeque<Segment>,
-    inbox: VecDeque<u8>,
+    /// What has arrived, of which the first so many bytes were read.
+    inbox: Vec<u8>,
+    begins: usize,
     /// How many bytes were sent and not read.
     held: usize,
     /// How many may be.
@@ -42,7 +44,8 @@ impl Way {
     fn new(room: usize) -> Way {
         Way {
             flight: VecDeque::new(),
-            inbox: VecDeque::new(),
+            inbox: Vec::new(),
+            begins: 0,
             held: 0,
             room,
             last: 0,
@@ -103,7 +106,7 @@ impl Way {
         let mut is_new = false;
         while self.flight.front().is_some_and(|segment| segment.at <= now) {
             let segment = self.flight.pop_front().expect("it is there");
-            self.inbox.extend(segment.bytes);
+            self.inbox.extend_from_slice(&segment.bytes);
             is_new = true;
         }
         if !self.has_ended && self.flight.is_empty() && self.end.is_some_and(|at| at <= now) {
@@ -115,19 +118,25 @@ impl Way {
 
     /// How many bytes may be read.
     pub fn ready(&self) -> usize {
-        self.inbox.len()
+        self.inbox.len() - self.begins
     }
 
     /// Reads so many bytes at most.
     pub fn read(&mut self, most: usize) -> Vec<u8> {
-        let count = most.min(self.inbox.len());
+        let count = most.min(self.ready());
         self.held -= count;
-        self.inbox.drain(..count).collect()
+        let bytes = self.inbox[self.begins..self.begins + count].to_vec();
+        self.begins += count;
+        if self.begins == self.inbox.len() {
+            self.inbox.clear();
+            self.begins = 0;
+        }
+        bytes
     }
 
     /// Whether the end of what comes is reached.
     pub fn is_at_end(&self) -> bool {
-        self.has_ended && self.inbox.is_empty()
+        self.has_ended && self.ready() == 0
     }
 
     /// Whether the sender's end has arrived.

@@ -179,7 +179,7 @@ impl World {
     pub fn new(asked: &Asked) -> World {
         let seed = asked.seed;
         let mut draw = Draw::new(seed, "world", 0);
-        let is_wide = seed % 25 == 7;
+        let is_wide = seed % 40 == 7;
         let width = if is_wide { 160 } else { 1 };
         let count = if is_wide { 1 } else { draw.range(1, 4) as usize };
         let has_tokens = !is_wide && draw.one_in(4);
