@@ -126,7 +126,7 @@ def simulation(edits=(), shell_edits=(), behind=""):
         for file in sorted({it for it, _, _ in shell_edits}):
             path = Path(folder, "src", file)
             path.write_text(edited(path.read_text(), [(old, new) for it, old, new in shell_edits if it == file], file))
-        words = ["rustc", "--edition", "2024", "-O", "-D", "warnings", "-o", f"{folder}/simulation", f"{folder}/src/main.rs"]
+        words = ["rustc", "--edition", "2024", "-O", "-C", "codegen-units=1", "-D", "warnings", "-o", f"{folder}/simulation", f"{folder}/src/main.rs"]
         said = unproved.call(*words, "-C", f"link-arg={linked}")
         if said.returncode:
             raise unproved.Unbuilt(said.stdout)

@@ -78,7 +78,7 @@ impl Client {
     /// A client of this host, which did not come yet.
     pub fn new(host: usize, speech: Speech, nature: Nature, draw: Draw) -> Client {
         let mut draw = draw;
-        let steps = if nature == Nature::Feeder { 480 } else { 3 + draw.below(30) as u32 };
+        let steps = if nature == Nature::Feeder { 480 } else { 3 + draw.below(26) as u32 };
         Client {
             host,
             speech,
@@ -395,6 +395,8 @@ impl World {
         let len = u64::from(self.hosts[self.clients[client].host].known().history.len());
         let draw = &mut self.clients[client].draw;
         let subject = *draw.of(&Subject::ALL);
+        // Steps are many.
+        let subject = if subject == Subject::Steps && !draw.one_in(4) { Subject::Log } else { subject };
         let (line, from) = match subject {
             Subject::Log => {
                 let from = if draw.one_in(4) { 1 + draw.below(len + 2) } else { len + 2 - draw.below(12).min(len + 1) };
@@ -566,14 +568,17 @@ impl World {
     /// A client hears what came.
     fn hear(&mut self, client: usize, conn: usize) -> Result<(), String> {
         let it = &self.clients[client];
-        match (it.nature, it.speech) {
-            (Nature::Hostile, _) => {
+        let host = &self.hosts[it.host];
+        // What a host without a journal said before it ended binds nobody.
+        let is_past = !host.has_journal && host.epoch != self.conns[conn].epoch;
+        match it.speech {
+            _ if is_past || it.nature == Nature::Hostile => {
                 self.clients[client].kept.clear();
                 Ok(())
             }
-            (_, Speech::Lines) => self.hear_lines(client, conn),
-            (_, Speech::Http) => self.hear_http(client),
-            (_, Speech::Web) => self.hear_web(client, conn),
+            Speech::Lines => self.hear_lines(client, conn),
+            Speech::Http => self.hear_http(client),
+            Speech::Web => self.hear_web(client, conn),
         }
     }
 

@@ -71,9 +71,8 @@ impl File {
         let lost = self.unsynced.len() - count;
         self.unsynced.truncate(count);
         if lost > 0 && draw.one_in(4) {
-            let most = lost.min(100) as u64;
             let byte = if draw.one_in(2) { 0 } else { b'x' };
-            let count = draw.range(1, most) as usize;
+            let count = draw.range(1, 300) as usize;
             self.unsynced.extend(std::iter::repeat_n(byte, count));
         }
         let all = self.bytes();

@@ -179,7 +179,7 @@ impl World {
     pub fn new(asked: &Asked) -> World {
         let seed = asked.seed;
         let mut draw = Draw::new(seed, "world", 0);
-        let is_wide = seed % 40 == 7;
+        let is_wide = seed % 32 == 7;
         let width = if is_wide { 160 } else { 1 };
         let count = if is_wide { 1 } else { draw.range(1, 4) as usize };
         let has_tokens = !is_wide && draw.one_in(4);
@@ -202,7 +202,7 @@ impl World {
             draws,
             said: BTreeSet::new(),
             has_tokens,
-            most_clients: if draw.one_in(8) { 4 + count as u32 } else { 64 },
+            most_clients: if draw.one_in(6) { 4 + count as u32 } else { 64 },
             width,
             faults: Vec::new(),
             is_calm: false,
