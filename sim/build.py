@@ -86,10 +86,23 @@ def sources(folder, pattern):
     return [(str(file.relative_to(folder)), file.read_bytes()) for file in sorted(folder.rglob(pattern))]
 
 
+def below():
+    """The crates on which the library stands."""
+    lines = [line.partition("#")[0].partition(":") for line in (ROOT / "crates.txt").read_text().splitlines()]
+    uses = {name.split()[0]: rest.split() for name, _, rest in lines if name.split()}
+    found, left = set(), list(USES)
+    while left:
+        name = left.pop()
+        if name in uses and name not in found:
+            found.add(name)
+            left += uses[name]
+    return sorted(found)
+
+
 def library(edits=(), behind=""):
     """The object with the calls, built where it is not there yet from the crates with these edits."""
-    crates = [it for it in sources(ROOT / "crates", "*.rt") if "/src/" in it[0]]
-    made = KEPT / sum_of(crates, sources(HERE / "library", "*"), (ROOT / "crates.txt").read_bytes(), edits, behind) / "library.o"
+    crates = [(name, sources(ROOT / "crates" / name / "src", "*.rt")) for name in below()]
+    made = KEPT / sum_of(crates, sources(HERE / "library", "*"), edits, behind) / "library.o"
     if made.exists():
         return made
     unproved.look()
