@@ -42,7 +42,7 @@ def planted():
 
 def find(program, number):
     """The first seed that finds a fault, and what it says; `None` where none does."""
-    words = ["--planted", str(number), "--seeds", f"0..{MOST_SEEDS}", "--first-failure"]
+    words = ["--planted", str(number), "--seeds", f"0..{MOST_SEEDS}", "--first-failure", "--no-shrink"]
     _, said = build.told(program, *words)
     found = re.search(r"^seed (\d+) fails: (.*)$", said, re.MULTILINE)
     return found and (int(found[1]), found[2])

@@ -24,6 +24,7 @@ pub struct Words {
     traces: bool,
     balances: bool,
     stops: bool,
+    keeps_long: bool,
     /// The fault of this number is planted.
     pub planted: u32,
 }
@@ -42,6 +43,7 @@ impl Words {
                 "--trace" => read.traces = true,
                 "--balance" => read.balances = true,
                 "--first-failure" => read.stops = true,
+                "--no-shrink" => read.keeps_long = true,
                 "--without" => read.without.push(words.next().ok_or("--without wants a class")?),
                 "--seeds" => {
                     let range = words.next().unwrap_or_default();
@@ -229,6 +231,10 @@ fn work(words: &Words, next: &AtomicU64, tally: &Mutex<Tally>) {
         tally.count(seed, &outcome);
         if let Some(why) = outcome.failure.filter(|_| tally.failed.len() <= MOST_TOLD) {
             drop(tally);
+            if words.keeps_long {
+                println!("seed {seed} fails: {why}");
+                continue;
+            }
             let (command, short) = shrunk(&asked, &outcome.kinds);
             println!("seed {seed} fails: {why}\n  shortest front: {command}\n  which fails: {short}");
         }
