@@ -1,6 +1,6 @@
 """Builds the library of a simulated world from the crates, with no proof: an object that `rustc` links.
 
-It takes the module of `library/library.rt.in` over the crates that `rt try` hands to its compiler, as `.ci/unproved`
+It takes the module of `library/main.rt.in` over the crates that `rt try` hands to its compiler, as `.ci/unproved`
 takes that of `warpd`, and has its calls seen from outside.
 """
 
@@ -23,8 +23,8 @@ LOADER.exec_module(unproved)
 
 NAME = "warp_simulated"
 # The libraries that the calls name, as a line of crates.txt.
-USES = """warp_machine warp_pages warp_journal warp_clients warp_service warp_prog warp_run warp_replica warp_trace warp_room
-warp_watch warp_hub warp_web warp_record warp_line warp_step warp_tag arrayvec""".split()
+USES = """warp_machine warp_events warp_push warp_pages warp_journal warp_clients warp_service warp_prog warp_run warp_replica
+warp_trace warp_room warp_watch warp_hub warp_web warp_record warp_line warp_step warp_tag arrayvec""".split()
 LEAST = 300_000
 # What is built stays here, by a sum of what it is built from.
 KEPT = ROOT / "out" / "sim"
@@ -39,7 +39,8 @@ def lay(room, edits=(), behind=""):
         path.write_text(edited(path.read_text(), [(old, new) for it, old, new in edits if it == file], file) + behind)
     folder = room / "crates" / NAME / "src"
     folder.mkdir(parents=True)
-    shutil.copy2(HERE / "library" / "library.rt.in", folder / "main.rt")
+    for file in sorted((HERE / "library").glob("*.rt.in")):
+        shutil.copy2(file, folder / file.name.removesuffix(".in"))
     with open(room / "crates.txt", "a") as lines:
         lines.write(f"{NAME}: {' '.join(USES)}\n")
 
@@ -48,8 +49,8 @@ def seen(line, calls):
     """A line in which the calls have their plain names, seen from outside, and the trial's beginning has another."""
     if line.startswith("define i32 @main("):
         return line.replace("@main(", "@trial_main(", 1)
-    for call in calls:
-        name = f'@"{NAME}::{call}"'
+    for call, module in calls.items():
+        name = f'@"{NAME}::{module}::{call}"'
         if name in line:
             if line.startswith("define internal "):
                 line = line.replace("define internal ", "define dso_local ", 1)
@@ -65,7 +66,9 @@ def build(room, work, made):
     text, edited = work / "module.ll", work / "edited.ll"
     plain = "-S -emit-llvm -O0 -Xclang -disable-llvm-passes -x ir".split()
     unproved.run(unproved.CLANG, "--no-default-config", *plain, module, "-o", text)
-    calls = CALL.findall((HERE / "library" / "library.rt.in").read_text())
+    calls = {}
+    for file, found in sources(HERE / "library", "*.rt.in"):
+        calls.update({call: file.removesuffix(".rt.in") for call in CALL.findall(found.decode())})
     lines = unproved.cleaned(text.read_text().split("\n"), unproved.inlining(room))
     edited.write_text("\n".join(seen(line, calls) for line in lines))
     unproved.run(unproved.CLANG, *unproved.FLAGS, "-c", "-x", "ir", edited, "-o", made)

@@ -6,6 +6,7 @@ is asked for. So all of them are built at once. A fault of a shell is planted in
 """
 
 MACHINE = "crates/warp_machine/src/"
+PUSH = "crates/warp_push/src/"
 
 LIBRARY = [
     (
@@ -20,29 +21,27 @@ LIBRARY = [
     ),
     (
         "reading is never asked for again behind a write",
-        [(MACHINE + "calls.rt", """        if !wanted && self.wants(who) {
-            self.conns.want(who, Want::Hear);""", """        if !PLANTED && !wanted && self.wants(who) {
-            self.conns.want(who, Want::Hear);""")],
+        [(MACHINE + "calls.rt", """        self.want_hear(who, wanted);""",
+          """        if !PLANTED {\n            self.want_hear(who, wanted);\n        }""")],
     ),
     (
         "reading is never asked for again behind a line",
-        [(MACHINE + "turning.rt", """        if !wanted && self.wants(who) {
-            self.conns.want(who, Want::Hear);""", """        if !PLANTED && !wanted && self.wants(who) {
-            self.conns.want(who, Want::Hear);""")],
+        [(MACHINE + "turning.rt", """        self.want_hear(who, wanted);""",
+          """        if !PLANTED {\n            self.want_hear(who, wanted);\n        }""")],
     ),
     (
         "who wants a page of its own is noted for good",
-        [(MACHINE + "watchers.rt", "            place.is_wanting = false;", "            place.is_wanting = PLANTED;")],
+        [(PUSH + "watchers.rt", "        self.places.set_wanting(key, false);", "        self.places.set_wanting(key, PLANTED);")],
     ),
     (
         "the newest value is on its way for good",
-        [(MACHINE + "shared.rt", """        self.is_asked = false;
+        [(PUSH + "shared.rt", """        self.is_asked = false;
         let is_new""", """        self.is_asked = PLANTED;
         let is_new""")],
     ),
     (
         "the page of one watcher moves all on",
-        [(MACHINE + "shared.rt", "        if !self.is_behind(next) {", "        if !PLANTED && !self.is_behind(next) {")],
+        [(PUSH + "shared.rt", "        if !self.is_behind(next) {", "        if !PLANTED && !self.is_behind(next) {")],
     ),
     (
         "a follower skips one",
@@ -51,16 +50,16 @@ LIBRARY = [
     ),
     (
         "bytes of one that left are heard of the next",
-        [(MACHINE + "conns.rt", "        self.rest = Vec::new(alloc);",
+        [(MACHINE + "conn.rt", "        self.rest = Vec::new(alloc);",
           "        if !PLANTED {\n            self.rest = Vec::new(alloc);\n        }")],
     ),
     (
         "a connection is deaf since the one before it was",
-        [(MACHINE + "conns.rt", "        self.is_deaf = false;", "        self.is_deaf = PLANTED && self.is_deaf;")],
+        [(MACHINE + "conn.rt", "        self.is_deaf = false;", "        self.is_deaf = PLANTED && self.is_deaf;")],
     ),
     (
         "what is wanted of a connection is asked for once",
-        [(MACHINE + "conns.rt", "                conn.is_listed = false;", "                conn.is_listed = PLANTED;")],
+        [(MACHINE + "conns.rt", "        self.all[at].is_listed = false;", "        self.all[at].is_listed = PLANTED;")],
     ),
     (
         "nobody is too slow",
@@ -69,17 +68,17 @@ LIBRARY = [
     ),
     (
         "a value is pushed twice",
-        [(MACHINE + "marks.rt", "    if *seen == version {", "    if !PLANTED && *seen == version {")],
+        [(PUSH + "marks.rt", "    if *seen == version {", "    if !PLANTED && *seen == version {")],
     ),
     (
         "one byte too many is let go",
-        [(MACHINE + "turning.rt", "    let _ = bytes.drain(..count);",
+        [(MACHINE + "conn.rt", "    let _ = bytes.drain(..count);",
           "    let _ = bytes.drain(..count + usize::from(PLANTED));")],
     ),
     (
         "what one had no room for is lost",
-        [(MACHINE + "calls.rt", "        self.keep(who, &bytes[heard..]);",
-          "        if !PLANTED {\n            self.keep(who, &bytes[heard..]);\n        }")],
+        [(MACHINE + "calls.rt", "        self.conns.keep(who, &bytes[heard..]);",
+          "        if !PLANTED {\n            self.conns.keep(who, &bytes[heard..]);\n        }")],
     ),
     (
         "peers sleep on when the journal can be written again",
@@ -87,21 +86,21 @@ LIBRARY = [
     ),
     (
         "records of a peer are refused while the journal fails",
-        [(MACHINE + "turning.rt", "        if self.is_failing && self.is_peer(who) {",
-          "        if !PLANTED && self.is_failing && self.is_peer(who) {"),
+        [(MACHINE + "turning.rt", "        if self.is_failing && self.conns.peer(who).is_some() {",
+          "        if !PLANTED && self.is_failing && self.conns.peer(who).is_some() {"),
          (MACHINE + "peering.rt", """        if self.is_failing || !self.are_peers_due {
             return;""", """        if (self.is_failing && !PLANTED) || !self.are_peers_due {
             return;""")],
     ),
     (
         "answers to a peer's records are heard again and again",
-        [(MACHINE + "peering.rt", "        self.clients.written(who, count);",
-          "        if !PLANTED {\n            self.clients.written(who, count);\n        }")],
+        [(MACHINE + "peering.rt", "    moves::written(clients, followed.who, count);",
+          "    if !PLANTED {\n        moves::written(clients, followed.who, count);\n    }")],
     ),
     (
         "lines of a peer are taken again and again",
-        [(MACHINE + "peering.rt", "        followed.peer.took(count, self.now);",
-          "        if !PLANTED {\n            followed.peer.took(count, self.now);\n        }")],
+        [(MACHINE + "peering.rt", "    followed.peer.took(count, now);",
+          "    if !PLANTED {\n        followed.peer.took(count, now);\n    }")],
     ),
     (
         "lines are written to the journal twice",
@@ -148,7 +147,7 @@ LIBRARY = [
     ),
     (
         "who may say something is noted for good",
-        [(MACHINE + "conns.rt", "            conn.is_talking = false;", "            conn.is_talking = PLANTED;")],
+        [(MACHINE + "conns.rt", "        self.all[at].is_talking = false;", "        self.all[at].is_talking = PLANTED;")],
     ),
     (
         "who reads again gets no pages",
@@ -166,18 +165,18 @@ LIBRARY = [
     ),
     (
         "the end of a client is heard before what came in front of it",
-        [(MACHINE + "turning.rt", """        if !conn.rest.is_empty() {
-            return count > 0;""", """        if !PLANTED && !conn.rest.is_empty() {
-            return count > 0;""")],
+        [(MACHINE + "turning.rt", "        if self.conns.drop_rest(who, count) {",
+          "        if self.conns.drop_rest(who, count) && !PLANTED {")],
     ),
     (
         "a page behind a gap counts as pushed",
-        [(MACHINE + "marks.rt", "        if self.is_done || self.next < from {",
-          "        if self.is_done || (self.next < from && !PLANTED) {")],
+        [(PUSH + "marks.rt", "        if self.next < from {", "        if self.next < from && !PLANTED {"),
+         (PUSH + "marks.rt", "            behind = Some(self.next - from);",
+          "            behind = Some(self.next.saturating_sub(from));")],
     ),
     (
         "output behind the first is never told of",
-        [(MACHINE + "calls.rt", "                conn.is_writing = false;", "                conn.is_writing = PLANTED;")],
+        [(MACHINE + "calls.rt", "            self.conns.set_writing(who, false);", "            self.conns.set_writing(who, PLANTED);")],
     ),
 ]
 

@@ -1,4 +1,4 @@
-//! The journal's threads of a host, as `scribe.rt`, `renewal.rt` and `syncing.rt` of `warp_host` have them: what is handed is
+//! The threads of a journal, as `scribe.rt`, `renewal.rt` and `syncing.rt` of `warp_disk` have them: what is handed is
 //! written and synced, and where the disk fails the log is written anew.
 
 use crate::disk::File;

@@ -420,28 +420,43 @@ impl World {
         }
     }
 
-    /// Sends to a peer what the system takes.
+    /// Sends to a peer what the system takes, in so many writes.
     fn send_peer(&mut self, host: usize, peer: u32, number: u64, machine: &mut Machine) {
+        for _ in 0..MOST_WRITES {
+            if !self.send_peer_once(host, peer, number, machine) {
+                return;
+            }
+        }
+        if let Some(link) = self.hosts[host].shell.links.get_mut(peer as usize) {
+            link.is_due = true;
+        }
+    }
+
+    /// Writes once to a peer; whether the system took something.
+    fn send_peer_once(&mut self, host: usize, peer: u32, number: u64, machine: &mut Machine) -> bool {
         let now = self.clock(host);
-        let Some(link) = self.hosts[host].shell.links.get_mut(peer as usize) else { return };
-        let (true, Some(conn)) = (link.number == number && link.may_write, link.conn) else { return };
+        let Some(link) = self.hosts[host].shell.links.get_mut(peer as usize) else { return false };
+        let (true, Some(conn)) = (link.number == number && link.may_write, link.conn) else { return false };
         if self.conns[conn].is_reset {
-            return self.lose_link(host, peer, number, machine);
+            self.lose_link(host, peer, number, machine);
+            return false;
         }
         let mut room = [0; 1024];
         let len = machine.peer_output(peer, number, &mut room);
         let free = self.conns[conn].up.free();
         let count = len.min(free).min(room.len());
         if len == 0 {
-            return;
+            return false;
         }
         let link = &mut self.hosts[host].shell.links[peer as usize];
         link.may_write = count == len || count < free;
-        if count > 0 {
-            self.hosts[host].shell.is_active = true;
-            self.send_up(conn, &room[..count]);
-            machine.peer_note(peer, number, PeerNews::Sent(count), now);
+        if count == 0 {
+            return false;
         }
+        self.hosts[host].shell.is_active = true;
+        self.send_up(conn, &room[..count]);
+        machine.peer_note(peer, number, PeerNews::Sent(count), now);
+        true
     }
 
     /// Reads once of a peer, where the machine wants that.
