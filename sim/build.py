@@ -28,6 +28,8 @@ warp_trace warp_room warp_watch warp_hub warp_web warp_record warp_line warp_ste
 LEAST = 300_000
 # What is built stays here, by a sum of what it is built from.
 KEPT = ROOT / "out" / "sim"
+# So the names of what is no other crate's begin in its module.
+OWN = f'@"{NAME}::'
 CALL = re.compile(r'pub extern "C" fn (\w+)\(')
 
 
@@ -49,6 +51,8 @@ def seen(line, calls):
     """A line in which the calls have their plain names, seen from outside, and the trial's beginning has another."""
     if line.startswith("define i32 @main("):
         return line.replace("@main(", "@trial_main(", 1)
+    if OWN not in line:
+        return line
     for call, module in calls.items():
         name = f'@"{NAME}::{module}::{call}"'
         if name in line:
