@@ -570,9 +570,12 @@ impl World {
         let it = &self.clients[client];
         let host = &self.hosts[it.host];
         // What a host without a journal said before it ended binds nobody.
-        let is_past = !host.has_journal && host.epoch != self.conns[conn].epoch;
+        let is_past = host.epoch != self.conns[conn].epoch;
+        let is_void = is_past && !host.has_journal;
+        self.clients[client].talk.is_past = is_past;
+        let it = &self.clients[client];
         match it.speech {
-            _ if is_past || it.nature == Nature::Hostile => {
+            _ if is_void || it.nature == Nature::Hostile => {
                 self.clients[client].kept.clear();
                 Ok(())
             }

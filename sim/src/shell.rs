@@ -15,8 +15,8 @@ const MOST_WRITES: u32 = 16;
 const SECOND: u64 = 1_000_000;
 /// So many bytes of output at most may wait for a connection: what is pushed, a message of WebSocket, and answers.
 const MOST_OUTPUT: usize = (1 << 20) + (1 << 18);
-/// A host that does nothing may begin so many rounds at once one behind another.
-const MOST_IDLE: u32 = 64;
+/// A host that shows nothing may begin so many rounds at once one behind another: it may work on for some.
+const MOST_IDLE: u32 = 512;
 
 /// A socket of a client.
 pub struct Seat {
@@ -242,12 +242,14 @@ impl World {
             shell.seats.push(None);
         }
         let is_free = shell.seats[at].is_none();
+        // What came before it was let in is told when its socket is registered, its end too.
+        let is_closed = self.conns[conn].up.has_ended();
         shell.seats[at] = Some(Seat {
             who,
             conn,
             may_read: true,
             may_write: true,
-            is_closed: false,
+            is_closed,
             is_at_end: false,
             is_writing: false,
             is_queued: false,

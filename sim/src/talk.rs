@@ -15,6 +15,9 @@ pub struct Known {
     /// It fails now to write its journal, and how many times that has changed.
     pub is_failing: bool,
     pub failures: u32,
+    /// How many times the host began anew, and with how many records the last time.
+    begins: u32,
+    kept: u32,
 }
 
 impl Known {
@@ -27,11 +30,15 @@ impl Known {
             shown: BTreeMap::new(),
             is_failing: false,
             failures: 0,
+            begins: 0,
+            kept: 0,
         }
     }
 
     /// The host begins anew, with the first so many records of its log.
     pub fn begin_anew(&mut self, count: u32) {
+        self.begins += 1;
+        self.kept = count;
         self.told = self.told.min(count);
         self.taken.retain(|place| *place <= count);
         self.shown.clear();
@@ -145,6 +152,8 @@ struct Asked {
     floor: u32,
     was_failing: bool,
     failures: u32,
+    /// How many times the host had begun anew by then.
+    begins: u32,
 }
 
 /// How far a watch is.
@@ -165,6 +174,8 @@ pub struct Talk {
     /// The longest log of which it was told.
     told: u32,
     watches: BTreeMap<Subject, Watch>,
+    /// What comes was said before the host began anew.
+    pub is_past: bool,
     pub is_gone_slow: bool,
     /// How many replies and pushes came.
     pub replies: u64,
@@ -185,6 +196,7 @@ impl Talk {
             rights,
             told: 0,
             watches: BTreeMap::new(),
+            is_past: false,
             is_gone_slow: false,
             replies: 0,
             pushes: 0,
@@ -199,6 +211,7 @@ impl Talk {
             floor: known.told,
             was_failing: known.is_failing,
             failures: known.failures,
+            begins: known.begins,
         });
     }
 
@@ -218,9 +231,12 @@ impl Talk {
             self.pushes += 1;
             return self.hear_push(push, limit, known).map_err(|why| format!("{why}; pushed: {}", short(text)));
         }
-        let Some(asked) = self.asked.pop_front() else {
+        let Some(mut asked) = self.asked.pop_front() else {
             return Err(format!("a reply to nothing: {}", short(text)));
         };
+        if asked.begins != known.begins {
+            asked.floor = asked.floor.min(known.kept);
+        }
         self.replies += 1;
         let heard = self.hear_reply(&asked, text, limit, known);
         heard.map_err(|why| format!("{why}; to: {}; reply: {}", asked.line, short(text)))
@@ -353,7 +369,7 @@ impl Talk {
             return if is_none { Ok(()) } else { Err("it is released".into()) };
         }
         let shown = text.splitn(3, ' ').nth(2).unwrap_or("").to_string();
-        known.note_shown(at, &shown)
+        if self.is_past { Ok(()) } else { known.note_shown(at, &shown) }
     }
 
     /// A push came.
@@ -408,7 +424,7 @@ impl Talk {
         }
         watch.next += 1;
         let shown = push.splitn(3, ' ').nth(2).unwrap_or("").to_string();
-        known.note_shown(at, &shown)
+        if self.is_past { Ok(()) } else { known.note_shown(at, &shown) }
     }
 
     /// What is released is frozen.
