@@ -16,7 +16,7 @@ from pathlib import Path
 
 import hosting
 import journals
-from journals import LEFT, Client, Crowd, Room, fails, fill, numbers, read, remarks, renewed, unusable
+from journals import LEFT, Client, Crowd, Room, fails, fill, numbers, read, remarks, renewed, unusable, wait_until_refused
 from loopback import Wrong, holds, same, wait_for
 
 FAILING = r"""
@@ -205,11 +205,13 @@ def held():
             disk.fail("sync")
             first.send(f"{sent[3]}\n{sent[4]}\nvar 0\n".encode())
             wait_for(lambda: remarks(host), "what is said")
+            wait_until_refused(host)
             for line in (sent[3], "event 0 70 0 0 1", "withdraw 0 1 0", "announce 0 9 0 9 1"):
                 same(late.ask(line), "refused 14", f"the answer to {line} while the disk fails")
             asking.send(b"var 0\n")
             same([it.split()[0] for it in other.ask_all(["board", "row 0", "program", "names"])], ["board", "none", "program", "names"], "looks")
             same([hosting.get(host.address, it)[0] for it in ("/healthz", "/metrics")], [200, 200], "pages")
+            same(hosting.get(host.address, "/readyz")[::2], (503, b"the journal cannot be written: records are refused\n"), "it is not ready")
             holds(is_silent(first, 2.5) and is_silent(asking) and is_silent(watching), "something past the synced length is told")
             first.send(b"event 0 71 0 0 1\n")
             same(late.ask("event 0 72 0 0 1"), "refused 14", "a record later on")
@@ -219,6 +221,7 @@ def held():
             same(asking.line(), "var 5 5", "a query that was held")
             same([watching.line() for _ in range(2)], [f"* log {place} {line}" for place, line in enumerate(sent[3:], 4)], "pushes behind it")
             wait_for(lambda: len(remarks(host)) == 2, "what is said behind it")
+            wait_for(lambda: hosting.get(host.address, "/readyz")[::2] == (200, b"ready\n"), "it is ready", 10)
             sent.append("event 0 72 0 0 1")
             same(wait_for(lambda: (it := late.ask(sent[-1])) != "refused 14" and it, "a record is taken"), "taken 6", "a record behind it")
             same(watching.line(), f"* log 6 {sent[-1]}", "a push behind it")
@@ -361,14 +364,21 @@ def no_room():
     Where the system's signal for large files is not ignored it kills the host, and nothing that was told is lost."""
     def ignored():
         signal.signal(signal.SIGXFSZ, signal.SIG_IGN)
-        resource.setrlimit(resource.RLIMIT_FSIZE, (4_000, resource.RLIM_INFINITY))
 
     with Room() as room:
         host = room.host(before=ignored)
         try:
-            told = until_refused(host)
+            told, talk = fill(host, 5, 100), host.talk()
+            # The journal is longer, also where it is written anew, and what is said is not.
+            resource.prlimit(host.process.pid, resource.RLIMIT_FSIZE, (4_000, resource.RLIM_INFINITY))
+            told.append("event 0 10000 0 0 1")
+            talk.send(f"{told[-1]}\n".encode())
+            wait_until_refused(host)
+            same(host.talk().ask("event 0 20000 0 0 1"), "refused 14", "a record while there is no room")
+            holds(is_silent(talk, 1.5), "a record is told that has no room")
             same(remarks(host), [fails("File too large (os error 27)")], "what is said")
             resource.prlimit(host.process.pid, resource.RLIMIT_FSIZE, (resource.RLIM_INFINITY, resource.RLIM_INFINITY))
+            same(talk.line(), f"taken {len(told)}", "a record that was held")
             goes_on(host, told)
             host.finish()
         finally:
@@ -396,11 +406,11 @@ def until_refused(host):
     for at in range(10_000):
         lines.append(f"event 0 {at} 0 0 1")
         talk.send(f"{lines[-1]}\n".encode())
-        talk.socket.settimeout(1)
-        try:
-            same(talk.line(), f"taken {at + 1}", "a record")
-        except TimeoutError:
+        while (is_held := is_silent(talk, 1)) and hosting.get(host.address, "/readyz")[0] == 200:
+            pass
+        if is_held:
             break
+        same(talk.line(), f"taken {at + 1}", "a record")
     talk.close()
     same(host.talk().ask("event 0 20000 0 0 1"), "refused 14", "a record while there is no room")
     return lines
@@ -542,6 +552,7 @@ def lazy_failures():
                 sent.append("event 0 70000 0 0 1")
                 talk.send(f"{sent[-1]}\n".encode())
                 wait_for(lambda: remarks(host), "that it fails")
+                wait_until_refused(host)
                 same(late.ask("event 0 70001 0 0 1"), "refused 14", "a record while the disk fails")
                 asking.send(b"horizon\n")
                 holds(is_silent(talk, 1.5) and is_silent(asking), "something past what was written is told")
@@ -560,6 +571,11 @@ def lazy_failures():
 
 def lazy_syncs():
     """With MILLISECONDS a sync that fails loses nothing either: what was written is told, and the journal is written anew."""
+    holds(any(fails_behind_a_write() for _ in range(4)), "what was written is told while syncs fail")
+
+
+def fails_behind_a_write():
+    """Whether a record was written before a sync failed: where it was not, it is told once the journal is written anew."""
     with Disk() as disk, Room() as room:
         host = room.host("--sync", "10", env=disk.under())
         try:
@@ -567,8 +583,14 @@ def lazy_syncs():
             wait_for(lambda: numbers(host)["records"] == 50, "all is synced")
             disk.fail("sync")
             sent.append("event 0 70000 0 0 1")
-            same(talk.ask(sent[-1]), "taken 51", "a record that is written")
+            talk.send(f"{sent[-1]}\n".encode())
+            if is_silent(talk, 20):
+                disk.heal("sync")
+                same(talk.line(), "taken 51", "a record that was not written")
+                return False
+            same(talk.line(), "taken 51", "a record that is written")
             wait_for(lambda: remarks(host), "that it fails")
+            wait_until_refused(host)
             same([talk.ask(it) for it in ("event 0 70001 0 0 1", "horizon")], ["refused 14", "horizon 51 0 0"], "while the disk fails")
             disk.heal("sync")
             wait_for(lambda: remarks(host) == [fails(NO_QUOTA), renewed(51)], "what is said")
@@ -577,6 +599,7 @@ def lazy_syncs():
         finally:
             host.kill()
         room.holds_log([*sent, "event 0 70001 0 0 1"])
+        return True
 
 
 CASES = [each_fails, held, failing_end, no_fresh_file, killed_while_it_writes_anew, kills_while_it_fails, no_room, full_disk, read_only,

@@ -12,7 +12,7 @@ import threading
 import time
 from pathlib import Path
 
-from hosting import CLOSE, TEXT, Web, frame, get, read_all, read_text
+from hosting import CLOSE, TEXT, Web, frame, get, narrow, read_all, read_text
 from hosting import begun as Hosted
 from loopback import SECONDS, Talk, Wrong, holds, same, wait_for
 
@@ -320,36 +320,51 @@ def slow_reader():
 
 
 def gone_slow():
-    """Who watches long values and reads nothing is told that it is too slow, behind whole pushes in order, and closed; others are served."""
-    values = " ".join(str(-(2 ** 62) - at) for at in range(1, 64))
-    with tempfile.TemporaryDirectory() as folder, Hosted(program=program_of(folder, 64), remarks=["clients closed: "]) as host:
+    """Who watches the log and reads nothing is told that it is too slow, behind whole pushes in order, and closed; others are served."""
+    with tempfile.TemporaryDirectory() as folder, Hosted(program=program_of(folder, 1), remarks=["clients closed: "]) as host:
         asker = host.talk()
-        lines = host.talk()
-        same(lines.ask("watch vars"), "watching 1", "a watch")
+        lines = Talk(host.address, narrow)
+        same(lines.ask("watch log 1"), "watching 1", "a watch")
         count = ask_until_slow(host, asker, 0, 1)
         said = lines.replies.read().decode().splitlines()
         same(said.pop(), "* gone slow", "the last line")
-        look_at_values(said, values)
-        web = host.web()
-        web.say("watch vars")
+        look_at_log(said, 1)
+        lines.close()
+        web = host.web(connect=narrow)
+        web.say(f"watch log {count + 1}")
+        first = count + 1
         count = ask_until_slow(host, asker, count, 2)
         code, messages = read_text(web)
         said = "\n".join(messages).split("\n")
         same((said.pop(0), said.pop()), ("watching 1", "* gone slow"), "the first line and the last")
-        look_at_values(said, values)
+        look_at_log(said, first)
         same(code, 1001, "the code of the close")
         web.close()
-        same(asker.ask("var 0"), f"var {count} {count}", "who reads")
+        holds(asker.ask("var 0").startswith(f"var {count} "), "who reads")
+
+
+def record(at):
+    """The record at this place of the log, a long one."""
+    return f"event 0 {at} 0 0 {-(2 ** 62) - at}"
 
 
 def ask_until_slow(host, asker, count, slow):
-    """Sends events one by one until so many clients are told to be too slow; how many were sent then."""
-    end = time.monotonic() + 120
+    """Sends events, some at once, until so many clients are told to be too slow, which is told once a second; how many were sent then."""
+    wanted = count + 22_000
     while closed_in(host.printed(1)) < slow:
-        holds(time.monotonic() < end, "a client is told to be too slow")
-        same(asker.ask(f"event 0 {count} 0 0 1"), f"taken {count + 1}", "an event")
-        count += 1
+        holds(wanted < MOST_EVENTS, "a client is told to be too slow")
+        while count < wanted:
+            more = range(count + 1, count + 65)
+            same(asker.ask_all([record(at) for at in more]), [f"taken {at}" for at in more], "events")
+            count += len(more)
+        wanted += 2_000
+        time.sleep(1.5)
     return count
+
+
+def look_at_log(said, first):
+    """Pushes of the log, in order from this place on."""
+    same(said, [f"* log {at} {record(at)}" for at in range(first, first + len(said))], "pushes")
 
 
 def closed_in(text):
@@ -366,5 +381,73 @@ def look_at_values(said, values):
         holds(int(count) > newest, f"{count} behind {newest}")
         newest = int(count)
 
+def late_program(folder):
+    """Two origins, and a timer at each of a million times: an event at time 1 has all of these executed again."""
+    file = Path(folder, "late.json")
+    file.write_text(json.dumps({"version": 1, "stop": 1_000_000, "origins": 2, "reactors": [
+        {"name": "r", "vars": [["total", 0]], "inputs": ["a", "b"], "timers": [["tick", 1, 1]], "reactions": [
+            {"on": ["a"], "body": [["set", "total", ["+", "total", "a"]]]},
+            {"on": ["b"], "body": [["set", "total", ["+", "total", "b"]]]},
+            {"on": ["tick"], "body": [["set", "total", ["+", "total", 1]]]}]}],
+        "inputs": [[0, "r.a"], [1, "r.b"]], "outputs": []}))
+    return file
 
-CASES = [come_and_go, too_many, flood, few_descriptors, no_descriptors, slow_reader, gone_slow]
+
+def late_events():
+    """Sixteen connections of one token send events before all that is executed, again and again: who has another token has an
+    answer within a few rollbacks."""
+    with tempfile.TemporaryDirectory() as folder, tempfile.NamedTemporaryFile() as tokens:
+        tokens.write(b"many 0\nhonest 1\n")
+        tokens.flush()
+        os.chmod(tokens.name, 0o600)
+        with Hosted("--tokens", tokens.name, program=late_program(folder)) as host:
+            asker = host.talk()
+            same(asker.ask("token honest"), "may 1", "a token")
+            same(asker.ask("event 1 0 1 1 1"), "taken 1", "an event")
+            one = max(seconds_of(asker, number) for number in range(1, 4))
+            with sending(host, 16):
+                took = [seconds_of(asker, None) for _ in range(5)]
+            print(f"one rollback {one:.3f} seconds; a query among late events at most {max(took):.3f}")
+            holds(max(took) < 4 * one + 0.5, f"a query took {max(took):.3f} seconds, a rollback {one:.3f}")
+
+
+def seconds_of(asker, number):
+    """How long a query takes, behind a late event of this number if it has one."""
+    began = time.monotonic()
+    if number is not None:
+        asker.send(f"event 1 {number} 1 1 1\n".encode())
+    asker.send(b"var 0\n")
+    if number is not None:
+        holds(asker.line().startswith("taken "), "an event")
+    holds(asker.line().startswith("var "), "a query")
+    return time.monotonic() - began
+
+
+@contextlib.contextmanager
+def sending(host, count):
+    """So many connections send late events, each 20 milliseconds behind its last one's reply."""
+    ends = threading.Event()
+
+    def send(which):
+        with contextlib.closing(host.talk()) as talk:
+            talk.ask("token many")
+            number = which
+            while not ends.is_set():
+                talk.ask(f"event 0 {number} 1 0 1")
+                number += count
+                time.sleep(0.02)
+
+    threads = [threading.Thread(target=send, args=(it,)) for it in range(count)]
+    for it in threads:
+        it.start()
+    time.sleep(0.2)
+    try:
+        yield
+    finally:
+        ends.set()
+        for it in threads:
+            it.join()
+
+
+
+CASES = [come_and_go, too_many, flood, few_descriptors, no_descriptors, slow_reader, gone_slow, late_events]

@@ -1,5 +1,6 @@
 """Cases of `.ci/host` on who means no good: frames without end of a client that says nothing else, bytes that a browser was made to send,
-and a peer that lies. What is measured is a count, or memory before and behind a flood."""
+and who guesses tokens. What is measured is a count, or memory before and behind a flood. Peers that lie are in simulated worlds
+(`sim/src/liar.rs`)."""
 
 import contextlib
 import re
@@ -15,8 +16,6 @@ from loopback import HOST, holds, same, wait_for
 
 # So many bytes of frames are sent at most, for so many seconds, and so many MiB a host may hold more behind them.
 FLOOD, FLOOD_SECONDS, MOST_MORE = 64 << 20, 6, 4
-# How long a peer lies, in seconds. With pauses that double from a tenth of a second to five it is reached so often at most in that time.
-LIES, MOST_TRIES = 6, 9
 # The client's first bytes of TLS: a handshake, in which a server's ticket says lines.
 POISON = b"\x16\x03\x01\x02\x00\x01\x00\x01\xfc\x03\x03" + bytes(32) + b"\nevent 0 5 0 0 777\nannounce 0 10 0 1 0\n"
 
@@ -32,16 +31,19 @@ def written(file, data):
 
 def flood(web, piece, reads):
     """Sends these bytes again and again until there were enough, or the host takes no more; reads what comes where that is asked for.
-    Returns how many were sent."""
+    Returns how many were sent. Where that takes long, the host ends it: it brings no token."""
     sent, block, end = 0, piece * (262_144 // len(piece)), time.monotonic() + FLOOD_SECONDS
     web.socket.setblocking(False)
     while sent < FLOOD and time.monotonic() < end:
         comes, goes, _ = select.select([web.socket] if reads else [], [web.socket], [], 0.2)
-        if comes and not web.socket.recv(262_144):
+        try:
+            if comes and not web.socket.recv(262_144):
+                break
+            if goes:
+                # A frame that went in part goes on where it stopped.
+                sent += web.socket.send(block[sent % len(piece):])
+        except ConnectionError:
             break
-        if goes:
-            # A frame that went in part goes on where it stopped.
-            sent += web.socket.send(block[sent % len(piece):])
     return sent
 
 
@@ -49,7 +51,7 @@ def web_floods():
     """A client without a token that sends frames without end, and reads nothing or all, takes no memory, and holds up nobody."""
     kinds = {"pings": frame(PING, b"x" * 125), "empty pings": frame(PING, b""), "pongs": frame(PONG, b"x" * 10),
              "empty pongs": frame(PONG, b""), "empty fragments": frame(0, b"", is_last=False)}
-    with tempfile.NamedTemporaryFile() as tokens, Hosted("--tokens", written(tokens, b"secret *\n")) as host:
+    with tempfile.NamedTemporaryFile() as tokens, Hosted("--tokens", written(tokens, b"secret *\n"), remarks=("clients closed: ",)) as host:
         other = host.talk()
         other.tell(("token secret", "may *"))
         for kind, piece in kinds.items():
@@ -106,131 +108,6 @@ def neither_lines_nor_requests():
         web = Web(host.address)
         same(web.ask("nonsense", "log 1"), ["refused 1", "none 0"], "a first line of WebSocket that is none")
         web.close()
-
-
-class Liar:
-    """A peer that tells a program, perhaps a record, and then nonsense, as often as it is asked."""
-
-    def __init__(self, program):
-        self.program, self.tries = program.encode() + b"\n", 0
-        self.listener = socket.create_server((HOST, 0))
-        threading.Thread(target=self.serve, daemon=True).start()
-
-    @property
-    def port(self):
-        return self.listener.getsockname()[1]
-
-    def serve(self):
-        while True:
-            try:
-                one, _ = self.listener.accept()
-            except OSError:
-                return
-            self.tries += 1
-            with one, one.makefile("rb") as asked:
-                try:
-                    one.settimeout(2)
-                    asked.readline()
-                    one.sendall(self.program)
-                    if asked.readline().startswith(b"log"):
-                        one.sendall(b"none 0\n")
-                        asked.readline()
-                    one.sendall(b"watching 1\n* log 1 event 0 1 0 0 1\nnonsense\n")
-                    one.recv(1)
-                except OSError:
-                    pass
-
-
-def lying_peer():
-    """A peer that is found, tells a record and then nonsense is tried again behind pauses that grow, and an operator is told of it once a
-    second at most."""
-    with Hosted() as known:
-        liar = Liar(known.talk().ask("program"))
-    with Hosted("--peer", f"{HOST}:{liar.port}", remarks=[f"peer {HOST}:{liar.port} "]) as host:
-        wait_for(lambda: liar.tries, "the first connection")
-        began = time.monotonic()
-        time.sleep(LIES)
-        tries, lines = liar.tries, [line for line in host.printed(1).splitlines() if line.startswith("peer ")]
-        seconds = time.monotonic() - began
-        holds(2 <= tries <= MOST_TRIES, f"{tries} connections in {seconds:.1f} seconds")
-        holds(2 <= len(lines) <= seconds + 2, f"{len(lines)} lines in {seconds:.1f} seconds")
-        holds(any("lines about it left out)" in line for line in lines), f"no count of lines left out: {lines}")
-        host.talk().tell(("log 1", "log 1 event 0 1 0 0 1"))
-    liar.listener.close()
-
-
-class Breathless:
-    """A peer that takes connections, gives these answers to the first lines, and then a piece so many times, each behind a pause."""
-
-    def __init__(self, answers, piece, pause=0.0, most=100_000):
-        self.answers, self.piece, self.pause, self.most, self.tries = answers, piece, pause, most, 0
-        self.listener = socket.create_server((HOST, 0))
-        self.name = f"{HOST}:{self.listener.getsockname()[1]}"
-        threading.Thread(target=self.serve, daemon=True).start()
-
-    def serve(self):
-        while True:
-            try:
-                one, _ = self.listener.accept()
-            except OSError:
-                return
-            self.tries += 1
-            threading.Thread(target=self.answer, args=(one,), daemon=True).start()
-
-    def answer(self, one):
-        with one, one.makefile("rb") as asked, contextlib.suppress(OSError):
-            for line in self.answers:
-                asked.readline()
-                one.sendall(line.encode() + b"\n")
-            for _ in range(self.most):
-                time.sleep(self.pause)
-                one.sendall(self.piece)
-            while one.recv(1_000):
-                pass
-
-
-def endless_peers():
-    """A peer whose line has more bytes than any answer is lost before it ends, one whose line does not end in fifteen seconds is lost as one
-    that says nothing, also in front of any answer; each is told of, and tried again behind pauses that grow."""
-    with Hosted() as known:
-        own = known.talk().ask("program")
-    strange, lost = "lost: it said what answers no question\n", "lost: it is tried again\n"
-    kinds = {
-        "long line": (Breathless((), b"x" * 1_000), strange),
-        "long push": (Breathless((own, "watching 1"), b"* log 1 "), strange),
-        "129 bytes": (Breathless((own, "watching 1"), b"x" * 129, most=1), strange),
-        "128 bytes": (Breathless((own, "watching 1"), b"x" * 128, most=1), lost),
-        "trickle": (Breathless((), b"p", 0.5), lost),
-        "trickle of a push": (Breathless((own, "watching 1"), b"*", 0.5), lost),
-        "silent": (Breathless((), b"", most=0), lost),
-    }
-    peers, began = [word for it, _ in kinds.values() for word in ("--peer", it.name)], time.monotonic()
-    with Hosted(*peers, remarks=["peer "]) as host:
-        for kind, (it, line) in kinds.items():
-            wait_for(lambda it=it, line=line: f"peer {it.name} {line}" in host.printed(1), f"what is told of the {kind}", 40)
-            wait_for(lambda it=it: it.tries > 1, f"a second try of the {kind}", 40)
-        most = MOST_TRIES + (time.monotonic() - began) / 5
-        holds(all(it.tries <= most for it, _ in kinds.values()), f"how often: {[it.tries for it, _ in kinds.values()]}, at most {most}")
-        holds("can't be reached" not in host.printed(1), f"each was reached: {host.printed(1)}")
-    for it, _ in kinds.values():
-        it.listener.close()
-
-
-def refused_once():
-    """That a record of a peer is refused is told once for each reason, also where other lines about it come in the same second."""
-    with Hosted() as known:
-        own = known.talk().ask("program")
-    told = "watching 1\n* log 1 event 0 5 0 0 3\n* log 2 event 0 5 0 9 3\n* log 3 event 9 5 0 0 3\n* log 4 event 8 5 0 0 3"
-    peer = Breathless((own, told), b"nonsense\n", 0.3, most=1)
-    with Hosted("--peer", peer.name, remarks=["peer "]) as host:
-        wait_for(lambda: peer.tries > 2 and "lost: it said" in host.printed(1), "a line on another connection", 30)
-        lines = [line for line in host.printed(1).splitlines() if line.startswith("peer ")]
-        places = sorted(re.findall(r"its record at place (\d) was refused (\d+)", "\n".join(lines)))
-        same(len(places), 2, f"how many refusals are told, of {lines}")
-        same([place for place, _ in places], ["2", "3"], f"which records are told, of {lines}")
-        holds(places[0][1] != places[1][1], f"for which reasons, of {lines}")
-        host.talk().tell(("log 1", "log 1 event 0 5 0 0 3"), ("log 2", "none 1"))
-    peer.listener.close()
 
 
 class Noting:
@@ -347,11 +224,11 @@ def cross_site():
         for headers, status in ((("cross-site",), 403), (("Cross-Site",), 403), (("cross-site", allowed), 200), (("cross-site", other), 403),
                                 (("same-site",), 200), (("same-site", other), 403), (("same-origin",), 200), (("none",), 200)):
             sent = (f"Sec-Fetch-Site: {headers[0]}", *headers[1:])
-            for path in ("/", "/healthz", "/metrics", "/program.json"):
+            for path in ("/", "/healthz", "/readyz", "/metrics", "/program.json"):
                 same(hosting.get(host.address, path, *sent)[0], status, f"{path} with {sent}")
             same(Web(host.address, headers=sent).status, 101 if status == 200 else status, f"an upgrade with {sent}")
         old = f"GET /ws HTTP/1.0\r\nHost: {HOST}:{host.port}\r\n" + "".join(it + "\r\n" for it in upgrade) + "\r\n"
         holds(hosting.http(host.address, old.encode()).split(b" ")[1] == b"400", "an upgrade over HTTP/1.0 is 400")
 
 
-CASES = [web_floods, newest_ping, neither_lines_nor_requests, lying_peer, endless_peers, refused_once, tokens_behind_programs, guesses, guesses_over_http, cross_site]
+CASES = [web_floods, newest_ping, neither_lines_nor_requests, tokens_behind_programs, guesses, guesses_over_http, cross_site]

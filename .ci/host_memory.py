@@ -19,6 +19,7 @@ from loopback import HOST, Talk, Wrong, free_port, holds, same
 ROOT = Path(__file__).resolve().parent.parent
 AT_ONCE, WORKERS, MOST = 32, 4, 4_000
 WAIT = 60
+PATHS = ("/", "/readyz", "/metrics", "/names.json", "/program.json")
 LINES = {"event 0 5 0 0 3": ("taken 1", "known 1"), "var 0": (), "vars": (), "names": (), "program": (), "watch log 1": ("watching 1",),
          "watch released 0": (), "watch vars": (), "watch horizon": (), "event 1 2 0 1 4": (), "announce 0 50 0 1 0": (), "announce 1 50 0 1 0": (),
          "releases": (), "release 0": (), "counts 0": (), "reached 1": (), "board": (), "nonsense": ("refused 1",), "collect": (), "var 1": ("refused 6",)}
@@ -94,7 +95,7 @@ def say_messages(port, may_lack):
 def ask_pages(port, may_lack):
     """How many pages are answered, each with 200."""
     count = 0
-    for path in ("/", "/metrics", "/names.json", "/program.json"):
+    for path in PATHS:
         try:
             same(get((HOST, port), path, f"Origin: http://{HOST}:{port}")[0], 200, path)
             count += 1
@@ -176,7 +177,7 @@ def look_at_end(number, was_refused, counts, status, error):
         holds(was_refused and (status, last[0]) in ((5, "no memory\n"), (6, "cannot accept\n")), f"request {number}: status {status}, {error!r}")
         return
     same((status, last[0]), (0, "standard input ended: the host ends\n"), f"how it ended with request {number} refused")
-    holds(was_refused or counts == [len(LINES), len(LINES), 4], f"with no request refused clients were told {counts}")
+    holds(was_refused or counts == [len(LINES), len(LINES), len(PATHS)], f"with no request refused clients were told {counts}")
 
 
 def memory_refused():

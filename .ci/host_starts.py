@@ -276,7 +276,7 @@ def wrong_tokens():
 
             def counted():
                 text = get(host.address, "/metrics", "Authorization: Bearer one")[2]
-                return b"\nwarpd_http_unauthorized_total 7\n" in text and b"\nwarpd_refused_total 1\n" in text
+                return b"\nwarpd_http_unauthorized_total 7\n" in text and b'\nwarpd_refused_total{number="13"} 1\n' in text
 
             wait_for(counted, "the counts", 30)
 

@@ -66,8 +66,8 @@ class Hosted:
         self.talks.append(made)
         return made
 
-    def web(self, path="/ws", headers=()):
-        return Web(self.address, path, headers)
+    def web(self, path="/ws", headers=(), **more):
+        return Web(self.address, path, headers, **more)
 
     def memory(self, which="VmRSS"):
         """The memory that is taken, in MiB."""
@@ -113,6 +113,16 @@ def begun(*words, program=TWICE, **more):
     return Hosted(PROGRAM, program, *words, **more)
 
 
+def narrow(address, seconds):
+    """A connection of which the system's buffers hold little: some ten KiB at this end and some more at the other."""
+    made = socket.socket()
+    made.settimeout(seconds)
+    made.setsockopt(socket.SOL_SOCKET, socket.SO_RCVBUF, 4_096)
+    made.setsockopt(socket.IPPROTO_TCP, socket.TCP_MAXSEG, 536)
+    made.connect(address)
+    return made
+
+
 def frame(opcode, payload, is_last=True, is_masked=True, length=None):
     """A frame of WebSocket, as a client sends one."""
     size = len(payload) if length is None else length
@@ -136,8 +146,8 @@ TEXT, BINARY, CLOSE, PING, PONG = 1, 2, 8, 9, 10
 class Web:
     """A connection that speaks WebSocket, frame by frame."""
 
-    def __init__(self, address, path="/ws", headers=(), host=None):
-        self.socket = socket.create_connection(address, SECONDS)
+    def __init__(self, address, path="/ws", headers=(), host=None, connect=socket.create_connection):
+        self.socket = connect(address, SECONDS)
         self.socket.setsockopt(socket.IPPROTO_TCP, socket.TCP_NODELAY, 1)
         key = base64.b64encode(os.urandom(16)).decode()
         lines = [f"GET {path} HTTP/1.1", f"Host: {host or '%s:%d' % address}", "Upgrade: websocket", "Connection: keep-alive, Upgrade",

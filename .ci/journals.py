@@ -13,7 +13,7 @@ from pathlib import Path
 from typing import NamedTuple
 
 import hosting
-from loopback import Talk, holds, same
+from loopback import Talk, holds, same, wait_for
 
 # The program that is tried: a script sets it.
 PROGRAM = Path(__file__).resolve().parent.parent / "crates" / "warpd" / "out" / "warpd"
@@ -91,6 +91,11 @@ def remarks(host):
     return [it for it in host.printed(1).splitlines() if not hosting.is_usual(it)]
 
 
+def wait_until_refused(host):
+    """Waits until the host's worker knows that the disk fails: what the journal's thread says on standard error may be read before that."""
+    wait_for(lambda: hosting.get(host.address, "/readyz")[0] == 503, "records are refused")
+
+
 def numbers(host):
     """What the page of metrics says of the journal, by name."""
     _, _, page = hosting.get(host.address, "/metrics")
@@ -143,6 +148,10 @@ WRONG_SUM = "is not the sum of what stands before it"
 MOST_TORN, LONGEST = 1_024, 128
 
 
+# Of a sum of form 2, what stands behind its digest.
+SECONDS = re.compile(rb" (?:0|[1-9]\d*)")
+
+
 class Read(NamedTuple):
     """What a journal's bytes are: the records of the lines that are kept, how many bytes these are, the number of the line behind them,
     what is wrong with it, if anything is, and whether that is damage."""
@@ -155,8 +164,11 @@ class Read(NamedTuple):
 
 def is_sum(line, before, form, count):
     """Whether this line is the sum of so many records and what has this digest."""
-    seconds = rb" (?:0|[1-9]\d*)" if form == 2 else b""
-    return re.fullmatch(rb"= %d %s%s" % (count, before.hexdigest().encode(), seconds), line) is not None
+    front = b"= %d " % count
+    if not line.startswith(front):
+        return False
+    behind = line.removeprefix(front + before.hexdigest().encode())
+    return behind == b"" if form == 1 else SECONDS.fullmatch(behind) is not None
 
 
 def read(data):

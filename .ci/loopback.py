@@ -5,6 +5,7 @@ import os
 import random
 import re
 import resource
+import signal
 import socket
 import struct
 import subprocess
@@ -47,6 +48,17 @@ def wait_for(found, what, seconds=SECONDS):
             return value
         holds(time.monotonic() < end, f"within {seconds} seconds not: {what}")
         time.sleep(0.002)
+
+
+def give_up_after(seconds):
+    """Has this process raise Wrong where it waits by then; and it ends without a word where that holds it for a minute more."""
+    def raise_wrong(*_):
+        signal.signal(signal.SIGALRM, signal.SIG_DFL)
+        signal.alarm(50)
+        raise Wrong(f"it took more than {seconds} seconds")
+
+    signal.signal(signal.SIGALRM, raise_wrong)
+    signal.alarm(seconds)
 
 
 def free_port():
@@ -150,8 +162,8 @@ class Server:
 class Talk:
     """A session: lines go out, replies come in. `said` has each line that was asked, its reply, and when both were."""
 
-    def __init__(self, address):
-        self.socket = socket.create_connection(address, SECONDS)
+    def __init__(self, address, connect=socket.create_connection):
+        self.socket = connect(address, SECONDS)
         self.socket.setsockopt(socket.IPPROTO_TCP, socket.TCP_NODELAY, 1)
         self.replies = self.socket.makefile("rb")
         self.said = []

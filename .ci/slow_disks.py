@@ -1,9 +1,11 @@
 """The cases of `.ci/journal` over disks that are slow: a sync takes seconds, and nothing waits for it but who has to; so does a write."""
 
+import re
 import signal
 import time
 
 from disks import Disk, is_silent
+from hosting import get
 from journals import Room, numbers, read, remarks
 from loopback import holds, same, wait_for
 
@@ -56,6 +58,12 @@ def slow_syncs():
                 holds(ran < 1.25 * host.memory(), f"it held {ran} MiB, and one that starts holds {host.memory()}")
 
 
+def waits(host):
+    """What the page of metrics says of records that may not be told and of lines that have no answer."""
+    names = "log_untold_records|line_waiting_seconds"
+    return {name: float(value) for name, value in re.findall(rf"^warpd_({names}) (\S+)$", get(host.address, "/metrics")[2].decode(), re.M)}
+
+
 def slow_always():
     """With `always` an answer waits for its sync, however slow, while later records are written; and a host that ends waits for it."""
     with Disk() as disk, Room() as room:
@@ -68,6 +76,7 @@ def slow_always():
             other.send(b"event 0 2 0 0 1\n")
             wait_for(lambda: len(room.records()) == 2, "the second record in the file", 1.5)
             holds(is_silent(talk) and is_silent(other), "a record is told that is not synced")
+            wait_for(lambda: (it := waits(host))["log_untold_records"] and it["line_waiting_seconds"], "what waits is told", 10)
             same((talk.line(), other.line()), ("taken 1", "taken 2"), "the answers")
             talk.send(b"event 0 3 0 0 1\n")
             wait_for(lambda: len(room.records()) == 3, "the third record in the file")
@@ -92,7 +101,9 @@ def slow_and_failing():
             wait_for(lambda: remarks(host), "that it fails")
             disk.heal("write")
             same(talk.line(), "taken 2", "a record that was held")
-            same(host.talk().ask("event 0 3 0 0 1"), "taken 3", "a record while the old sync hangs")
+            other = host.talk()
+            same(wait_for(lambda: (it := other.ask("event 0 3 0 0 1")) != "refused 14" and it, "a record is taken"), "taken 3",
+                 "a record while the old sync hangs")
             time.sleep(3)
             same(host.talk().ask("event 0 4 0 0 1"), "taken 4", "a record behind it")
             wait_for(lambda: numbers(host)["records"] == 4, "all is synced", 10)

@@ -172,6 +172,8 @@ export class Client {
   counts(origin: number): Promise<Counts>
   /** Up to which tag the origin's announcements are reached. */
   reached(origin: number): Promise<{ log: number; origin: number } & Tag>
+  /** One number for the set of the records that the host counted, in 32 hex digits: hosts with the same records have the same. */
+  digest(): Promise<{ log: number; digits: string }>
   log(place: number): Promise<{ log: number; record: LogRecord } | null>
   collect(): Promise<{ log: number }>
   program(): Promise<{ version: number; fingerprint: string }>

@@ -194,7 +194,7 @@ const PARTS = {
   log: within(1e7), place: within(1e7, 1), events: within(1e7), withdrawn: within(1e7), rows: within(2 ** 20), watched: within(6),
   origin: within(63), input: within(63), output: within(63), time: within(15_625_000), micro: within(255), index: within(2 ** 32 - 1),
   count: within(Number.MAX_SAFE_INTEGER), number: within(99, 1), value: integer, frozen: flag, broken: flag,
-  version: within(99, 1), fingerprint: matching(/^[0-9a-f]{64}$/),
+  version: within(99, 1), fingerprint: matching(/^[0-9a-f]{64}$/), digits: matching(/^[0-9a-f]{32}$/),
 }
 
 /** Reads as many words as the form names parts: `name`, or `name:part` where the part has another name. */
@@ -271,6 +271,7 @@ const READERS = {
     return { ...counts, last: { time, micro } }
   },
   reached: fields("log origin time micro"),
+  digest: fields("log digits"),
 }
 
 // With what a line is answered, where that is not its own word; each may be refused.
@@ -743,6 +744,11 @@ export class Client {
   /** Up to which tag the origin's announcements are reached. */
   reached(origin) {
     return this.ask(`reached ${origin}`)
+  }
+
+  /** One number for the set of the records that the host counted, in 32 hex digits: hosts with the same records have the same. */
+  digest() {
+    return this.ask("digest")
   }
 
   log(place) {

@@ -178,8 +178,8 @@ const TAKES = {
 function connect() {
   if (client) client.onstate = null
   client?.close()
-  const scheme = location.protocol === "https:" ? "wss:" : "ws:"
-  const made = new Client(`${scheme}//${location.host}/ws`, { token })
+  // Beside the page, wherever a proxy has that.
+  const made = new Client(new URL("ws", location).href.replace("http", "ws"), { token })
   const start = () => made === client && begin().catch(() => {})
   made.onstate = turn
   made.ready.then(start, () => {})
@@ -221,9 +221,9 @@ const rightsText = ({ may }) => ({ "*": "all origins", read: "none, it may only 
 /** What the host tells over HTTP alone: how long its log may get, and how many origins the program has. */
 async function readLimits() {
   const headers = token === undefined ? {} : { Authorization: `Bearer ${token}` }
-  const metrics = await (await fetch("/metrics", { headers })).text()
+  const metrics = await (await fetch("metrics", { headers })).text()
   limits.log = /^warpd_log_records_limit (\d+)/m.exec(metrics)?.[1] ?? ""
-  const file = await (await fetch("/program.json", { headers })).json()
+  const file = await (await fetch("program.json", { headers })).json()
   limits.origins = Number(file.origins) || 0
   choose("origin", originsNow().map(origin => [origin, `${origin}`]))
   touch()

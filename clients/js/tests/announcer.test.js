@@ -113,6 +113,8 @@ hosted("at a log of 99,984 records it begins in one round trip, with the counts 
   assert.deepEqual(await client.counts(0), { log: 99_989, origin: 0, events: 99_981, withdrawn: 5, last: { time: 200_003, micro: 0 } })
   assert.deepEqual(await client.reached(0), { log: 99_989, origin: 0, time: 300_000, micro: 0 })
   assert.equal((await client.breach(0)).broken, false)
+  const { log, digits } = await client.digest()
+  assert.deepEqual([log, /^[0-9a-f]{32}$/.test(digits)], [99_989, true])
 })
 
 hosted("before the last name that was there it reads the log, once, and keeps to its word as ever", async ({ client }) => {

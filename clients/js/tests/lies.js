@@ -26,6 +26,7 @@ export const NO_REPLIES = {
   ],
   board: ["board 1000000000000000000 0", "board 1048577 0", "row 5 0 0 3"], "row 0": ["none 1", "output 1 5 0 0 3"],
   "counts 0": ["counts 1 0 1 0 5", "reached 1 0 5 0"], "reached 0": ["reached 1 64 5 0"],
+  digest: ["digest 1", `digest 1 ${"0".repeat(31)}`, `digest 1 ${"A".repeat(32)}`, `digest 1 ${"0".repeat(33)}`],
   "watch log 1": ["watching 7", "may *"], "unwatch log": ["may *"], "token T": ["may all", "watching 1", "may 64", "may 0 x"],
   nonsense: ["taken 1", "nonsense 1", "constructor 1"],
 }

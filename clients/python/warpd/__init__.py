@@ -36,7 +36,7 @@ from .replies import (
 from .wire import LONGEST, Pipes, Wire
 
 __all__ = [
-    "Announce", "Announcer", "Board", "Breach", "Broken", "Carrier", "Client", "Collected", "Count", "Counts", "Differ", "Due", "Ended",
+    "Announce", "Announcer", "Board", "Breach", "Broken", "Carrier", "Client", "Collected", "Count", "Counts", "Differ", "Digest", "Due", "Ended",
     "Entry", "Event", "Frozen", "Horizon", "HostClient", "Known", "Logged", "Names", "Nothing", "Output", "Push", "Record", "Refused",
     "Reached", "Released", "Rollback", "Row", "Shape", "Skipped", "Step", "Tag", "Taken", "Var", "Variables", "Withdraw", "carry",
 ]
@@ -646,5 +646,5 @@ def carry(addresses: Sequence[tuple[str, int]], pause: float = 0.05, timeout: fl
 
 
 from .hosted import (  # noqa: E402 (which stands on all of this)
-    Broken, Due, Frozen, HostClient, Logged, Push, Released, Rollback, Skipped, Step, Variables,
+    Broken, Digest, Due, Frozen, HostClient, Logged, Push, Released, Rollback, Skipped, Step, Variables,
 )

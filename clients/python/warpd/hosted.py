@@ -23,6 +23,7 @@ Answer = TypeVar("Answer")
 # No program has more entries pending, and no step more due.
 MOST_PENDING = 256
 FINGERPRINT = re.compile(r"[0-9a-f]{64}", re.ASCII)
+DIGEST = re.compile(r"[0-9a-f]{32}", re.ASCII)
 # What reading a text raises that is not of its form.
 MALFORMED = (AttributeError, KeyError, IndexError, TypeError, ValueError, RecursionError)
 # What can be watched, and where it begins where no place is given.
@@ -49,6 +50,13 @@ class Releases(NamedTuple):
     log: int
     count: int
     frozen: bool
+
+
+class Digest(NamedTuple):
+    """One number for the set of the first `log` records, whatever their order, in 32 hex digits."""
+
+    log: int
+    digits: str
 
 
 class Logged(NamedTuple):
@@ -233,6 +241,13 @@ def _releases_of(text: str) -> Releases:
     return Releases(log, count, bool(frozen))
 
 
+def _digest_of(text: str) -> Digest:
+    log, digits = text.split(" ")
+    if not DIGEST.fullmatch(digits):
+        raise ValueError(digits)
+    return Digest(number_of(log, LOG), digits)
+
+
 def _taken_from(waiting: deque[Push]) -> list[Push]:
     found = list(waiting)
     waiting.clear()
@@ -325,6 +340,10 @@ class HostClient(Client):
     def reached(self, origin: int) -> Reached:
         """Up to which tag the announcements of an origin are reached."""
         return self.ask(f"reached {origin}")
+
+    def digest(self) -> Digest:
+        """One number for the set of the records that the host counted: hosts with the same records have the same."""
+        return self._told("digest", _digest_of)
 
     def watch(self, what: str, start: Optional[int] = None) -> Iterator[Push]:
         """Watches "log" or "released" (from `start` on, or from the first), "vars", "horizon", "breach", or "steps" (what

@@ -90,7 +90,7 @@ hosted("ticks that are due are executed there, and numbers glide here", async ({
   const rows = []
   const frame = () => {
     remote.frame()
-    rows.push(remote.smooth["ann.row"] ?? 3)
+    if ("ann.row" in remote.smooth) rows.push(remote.smooth["ann.row"])
     return remote.tick?.time ?? 0
   }
   await until(() => frame() > 10)
@@ -98,7 +98,8 @@ hosted("ticks that are due are executed there, and numbers glide here", async ({
   const act = remote.act("ann.steer", 1)
   const { time } = await act.record
   await until(() => frame() > time + 10)
-  assert.deepEqual([rows[0], rows.at(-1), remote.vars["ann.row"]], [3, 6, 6n])
+  // (before the first tick it is 0, which a slow machine may show)
+  assert.deepEqual([rows.includes(3), rows.at(-1), remote.vars["ann.row"]], [true, 6, 6n])
   assert.ok(rows.every((it, at) => at === 0 || it >= rows[at - 1]), `${rows}`)
   assert.ok((await act.answered).isNew)
   await remote.close()

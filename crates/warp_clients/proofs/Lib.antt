@@ -2,7 +2,7 @@ mod InPlaces
 mod Entries
 mod One
 mod ToldTales
-mod Moving
+pub mod Moving
 mod Stepping
 mod Entered
 mod Cuts

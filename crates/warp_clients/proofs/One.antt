@@ -69,6 +69,7 @@ may_word r word.Program = tt
 may_word r word.Names = may_known r (is_known r) (saying.Word word.Names) refl
 may_word r word.Vars = may_known r (is_known r) (saying.Word word.Vars) refl
 may_word r word.Releases = may_known r (is_known r) (saying.Word word.Releases) refl
+may_word r word.Digest = may_known r (is_known r) (saying.Word word.Digest) refl
 may_word r (word.Release number) = may_known r (is_known r) (saying.Word (word.Release number)) refl
 may_word r (word.Counts origin) = may_known r (is_known r) (saying.Word (word.Counts origin)) refl
 may_word r (word.Reached origin) = may_known r (is_known r) (saying.Word (word.Reached origin)) refl

@@ -13,11 +13,10 @@ use Rattle.warp_room.specs.Steps as room
 use Rattle.warp_room.specs.declared.answers.AnsweredLine.{AnsweredLine}
 use Rattle.warp_room.specs.declared.room.Worked.{Worked}
 use Rattle.warp_watch.specs.declared.client_id.ClientId.{ClientId}
-use Rattle.warp_web.specs.Wire.{output_of}
 use Rattle.warp_clients.specs.Client as deed
-use Rattle.warp_clients.specs.Client.{ClientState, Closes, Common, MayWrite, Misses, Replies}
+use Rattle.warp_clients.specs.Client.{ClientState, Closes, Common, MayWrite, Misses, Replies, bytes_for}
 use Rattle.warp_clients.specs.Crowd.{Becomes, CrowdState, GetsPlace, IsAway, IsFresh, IsThere, MayDo, Moves, MovesAt}
-use Rattle.warp_clients.specs.Steps.{ClientsState, Runs, SomeRun, Step, StepDoes}
+use Rattle.warp_clients.specs.Steps.{AreInner, ClientsState, Runs, SomeRun, Step, StepDoes}
 use Rattle.warp_clients.specs.Steps as step
 use Rattle.warp_clients.proofs.InPlaces.{get_same}
 use Rattle.warp_clients.proofs.Moving.{each_stays, moves_run, run_none, run_one, set_own}
@@ -43,7 +42,7 @@ comer_seat who q q' comes = elim comes.seats [
 pub moves_here : (who : ClientId) (old new : List ClientState) (k : Common) → MovesAt k who old new → IsThere who (λ c. Unit {0}) old → IsThere who (λ c. Unit {0}) new
 moves_here who old new k (inl same) here = (here.0, ap (λ (cs : List ClientState). slice_get cs who.key) same ∙ here.1, here.2, tt)
 moves_here who old new k (inr b) here =
-    (b.1, ap (λ (cs : List ClientState). slice_get cs who.key) b.5 ∙ get_same old who.key b.0 b.1 b.2, still_me who b.0 b.1 b.3 (each_stays k b.4.0 b.0 b.1 b.4.1), tt)
+    (b.1, ap (λ (cs : List ClientState). slice_get cs who.key) b.5 ∙ get_same old who.key b.0 b.1 b.2, still_me who b.0 b.1 b.3 (each_stays k b.4.0 b.0 b.1 b.4.2), tt)
 
 -- things are done for who is named, and it is there
 pub changed_here : (who : ClientId) (a b d : CrowdState) → b ≡ a → IsThere who (λ c. Unit {0}) b.clients → Moves who b d
@@ -72,8 +71,8 @@ module _ {T : Type 0} (facts : TimelineFacts T) where
       → (told ≡ false → Becomes one.who Misses s.crowd.clients s'.crowd.clients ⊎ (IsAway one.who s.crowd.clients × (s'.crowd.clients ≡ s.crowd.clients)))
       → s'.crowd.common ≡ s.crowd.common → SomeRun facts s s'
   hand_run s s' one limit is h true replied missed common =
-      run_one facts (step.Tells one) s s' ((subst (λ (n : ℕ). one.answer.len ≤ n) is h.limited, (limit, h)), (replied refl, common))
-  hand_run s s' one limit is h false replied missed common = run_one facts (step.Drops one) s s' ((limit, h), (missed refl, common))
+      run_one facts (step.Tells one) s s' tt ((subst (λ (n : ℕ). one.answer.len ≤ n) is h.limited, (limit, h)), (replied refl, common))
+  hand_run s s' one limit is h false replied missed common = run_one facts (step.Drops one) s s' tt ((limit, h), (missed refl, common))
 
   -- a client comes, has no place, and goes
   pub turned : (s s' : ClientsState T) (mid : RoomState T) (who : ClientId) (left : Bool) → Comes who s.room.queues mid.queues
@@ -94,7 +93,7 @@ module _ {T : Type 0} (facts : TimelineFacts T) where
   -- bytes were written
   pub written_step : (s s' : ClientsState T) (who : ClientId) (count : ℕ) → s'.room ≡ s.room
       → MayDo (MayWrite count) who s.crowd.clients s'.crowd.clients → s'.crowd.common ≡ s.crowd.common
-      → (s' ≡ s) ⊎ ((bytes : List ℕ) × StepDoes facts (step.Does who (deed.Wrote bytes)) s s')
+      → (s' ≡ s) ⊎ IsThere who (λ c. StepDoes facts (step.Does who (deed.Wrote (take count (bytes_for c)))) s s') s.crowd.clients
   written_step s s' who count room (inl same) common =
       inl (λ i. record { room = room i; crowd = record { clients = same i; common = common i } })
   written_step s s' who count room (inr (c, c', at, me, inl own, is)) common =
@@ -102,7 +101,7 @@ module _ {T : Type 0} (facts : TimelineFacts T) where
       is ∙ ap (λ (x : ClientState). slice_set s.crowd.clients who.key x) own ∙ set_own s.crowd.clients who.key c at in
       inl (λ i. record { room = room i; crowd = record { clients = same i; common = common i } })
   written_step s s' who count room (inr (c, c', at, me, inr writes, is)) common =
-      inr (take count (output_of c.wire), (room, ((c, c', at, me, writes, is), common)))
+      inr (c, at, me, (room, ((c, c', at, me, writes, is), common)))
 
   served_runs : (served : List AnsweredLine) (s s' : ClientsState T) → ServeEach facts served s.room s'.room → s'.crowd ≡ s.crowd
       → Runs facts (map (λ (one : AnsweredLine). step.Works (room.Answered one)) served) s s'
@@ -110,12 +109,17 @@ module _ {T : Type 0} (facts : TimelineFacts T) where
   served_runs (one ∷ served) s s' each crowd =
       let next : ClientsState T = record s { room = each.0 } in (next, (tt, each.1, refl), served_runs served next s' each.2 crowd)
 
+  served_inner : (served : List AnsweredLine) → AreInner (map (λ (one : AnsweredLine). step.Works (room.Answered one)) served)
+  served_inner [] = tt
+  served_inner (one ∷ served) = (tt, served_inner served)
+
   -- the room works
   pub work_run : (stands_for : T → Standing → Type 0) (lines most : ℕ) (s s' : ClientsState T) (worked : Worked)
       → Works stands_for facts lines most s.room worked s'.room → s'.crowd ≡ s.crowd → SomeRun facts s s'
   work_run stands_for lines most s s' worked w crowd =
       let between : ClientsState T = record s { room = record s.room { replica = w.between } } in (
         step.Works room.Executed ∷ map (λ (one : AnsweredLine). step.Works (room.Answered one)) w.served,
+        (tt, served_inner w.served),
         (between, (tt, (w.executes.program, w.executes.records, refl), refl), served_runs w.served between s' w.serves crowd),
       )
 
@@ -123,8 +127,11 @@ module _ {T : Type 0} (facts : TimelineFacts T) where
   pub serve_run : (most : ℕ) (s s' : ClientsState T)
       → (served : List AnsweredLine) × (length served ≤ most) × ServeEach facts served s.room s'.room
       → s'.crowd ≡ s.crowd → SomeRun facts s s'
-  serve_run most s s' served crowd =
-      (map (λ (one : AnsweredLine). step.Works (room.Answered one)) served.0, served_runs served.0 s s' served.2 crowd)
+  serve_run most s s' served crowd = (
+    map (λ (one : AnsweredLine). step.Works (room.Answered one)) served.0,
+    served_inner served.0,
+    served_runs served.0 s s' served.2 crowd,
+  )
 
   -- it shows what is released
   pub show_step : (s s' : ClientsState T) → s'.room ≡ record s.room { shown = s'.room.shown } → s'.crowd ≡ s.crowd
@@ -140,7 +147,7 @@ module _ {T : Type 0} (facts : TimelineFacts T) where
   ))
 
   pub show_run : (s s' : ClientsState T) → s'.room ≡ record s.room { shown = s'.room.shown } → s'.crowd ≡ s.crowd → SomeRun facts s s'
-  show_run s s' is crowd = run_one facts (step.Works room.Executed) s s' (show_step s s' is crowd)
+  show_run s s' is crowd = run_one facts (step.Works room.Executed) s s' tt (show_step s s' is crowd)
 
   -- its other end is asked for a sign of it, or its connection is lost
   pub closed_step : (s s' : ClientsState T) (who : ClientId) → s'.room ≡ s.room → MayDo Closes who s.crowd.clients s'.crowd.clients

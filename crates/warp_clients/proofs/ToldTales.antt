@@ -19,7 +19,8 @@ use Rattle.warp_room.proofs.OpenLines.{answered, came, handed, heard, left, othe
 use Rattle.warp_watch.specs.declared.client_id.ClientId.{ClientId}
 use Rattle.warp_web.specs.Lines.{nothing_passed}
 use Rattle.warp_web.specs.Wire.{Passes}
-use Rattle.warp_clients.specs.Sayings.{first_rights}
+use Rattle.warp_hub.specs.declared.tokens.Entry.{Entry as Token}
+use Rattle.warp_clients.specs.Sayings.{first_of, first_rights}
 use Rattle.warp_clients.specs.Client.{ClientState, Common, Deed, DoesFor, GoesIn, IsMe, Misses, Replies}
 use Rattle.warp_clients.specs.Client as deed
 use Rattle.warp_clients.specs.Crowd.{Becomes, CrowdState, GetsPlace, Goes, IsAway}
@@ -257,11 +258,11 @@ module _ {T : Type 0} (facts : TimelineFacts T) where
         older = older_kept facts (room.Came who ∷ []) s.room s'.room (s'.room, does.0, refl) told.older;
       }
 
-  told_joins : (f : Facts) (who : ClientId) (tales : Tales) (s s' : ClientsState T) → s.crowd.common.facts ≡ f
+  told_joins : (f : Facts) (who : ClientId) (tales : Tales) (s s' : ClientsState T) → first_rights s.crowd.common.facts ≡ first_rights f
       → StepDoes facts (step.Joins who) s s' → AreTold tales s → AreTold (λ v. behind_step f v (step.Joins who) (tales v)) s'
   told_joins f who tales s s' same does told =
       let k = s.crowd.common in
-      subst (λ (x : Facts). AreTold (λ v. behind_step f v (step.Enters who (first_rights x)) (tales v)) s') same
+      subst (λ (x : Rights). AreTold (λ v. behind_step f v (step.Enters who x) (tales v)) s') same
       (told_enters f who (first_rights k.facts) tales s s'
       (does.0, (first_as k who s.crowd.clients s'.crowd.clients does.1.0, does.1.1)) told)
 
@@ -412,8 +413,8 @@ module _ {T : Type 0} (facts : TimelineFacts T) where
       (let came_same : s'.room.queues.came ≡ s.room.queues.came = ap (λ (r : RoomState T). r.queues.came) room_same in omega (arith, came_same))
       (subst (λ (r : RoomState T). AreOlder r) (sym room_same) told.older) told
 
-  told_on : (f : Facts) (one : Step) (tales : Tales) (s s' : ClientsState T) → s.crowd.common.facts ≡ f → StepDoes facts one s s'
-      → AreTold tales s → AreTold (λ v. behind_step f v one (tales v)) s'
+  told_on : (f : Facts) (one : Step) (tales : Tales) (s s' : ClientsState T) → first_rights s.crowd.common.facts ≡ first_rights f
+      → StepDoes facts one s s' → AreTold tales s → AreTold (λ v. behind_step f v one (tales v)) s'
   told_on f (step.Joins who) tales s s' same does told = told_joins f who tales s s' same does told
   told_on f (step.Enters who rights) tales s s' same does told = told_enters f who rights tales s s' does told
   told_on f (step.Turned who) tales s s' same does told = told_turned who tales s s' does told
@@ -427,26 +428,31 @@ module _ {T : Type 0} (facts : TimelineFacts T) where
       told_rest tales s s' (ap (λ (x : ClientsState T). x.room) does) (ap (λ (x : ClientsState T). x.crowd.clients) does) told
   told_on f (step.Fails is) tales s s' same does told =
       told_rest tales s s' (ap (λ (x : ClientsState T). x.room) does) (ap (λ (x : ClientsState T). x.crowd.clients) does) told
+  told_on f (step.Renews entries) tales s s' same does told =
+      told_rest tales s s' (ap (λ (x : ClientsState T). x.room) does.2) (ap (λ (x : ClientsState T). x.crowd.clients) does.2) told
 
-  -- what the host knows from its start stays
-  facts_stay : (one : Step) (s s' : ClientsState T) → StepDoes facts one s s' → s'.crowd.common.facts ≡ s.crowd.common.facts
-  facts_stay (step.Joins who) s s' does = ap (λ (k : Common). k.facts) does.1.1
-  facts_stay (step.Enters who rights) s s' does = ap (λ (k : Common). k.facts) does.1.1
-  facts_stay (step.Turned who) s s' does = ap (λ (c : CrowdState). c.common.facts) does.1
-  facts_stay (step.Leaves who) s s' does = ap (λ (k : Common). k.facts) does.1.1
-  facts_stay (step.Does who d) s s' does = ap (λ (k : Common). k.facts) does.1.1
-  facts_stay (step.Asks who said) s s' does = ap (λ (k : Common). k.facts) does.1.1
-  facts_stay (step.Tells one) s s' does = ap (λ (k : Common). k.facts) does.1.1
-  facts_stay (step.Drops one) s s' does = ap (λ (k : Common). k.facts) does.1.1
-  facts_stay (step.Works work) s s' does = ap (λ (c : CrowdState). c.common.facts) does.2
-  facts_stay (step.Limits len) s s' does = ap (λ (x : ClientsState T). x.crowd.common.facts) does
-  facts_stay (step.Fails is) s s' does = ap (λ (x : ClientsState T). x.crowd.common.facts) does
+  -- what may be sent without a token stays so, also where the tokens are others
+  firsts_stay : (one : Step) (s s' : ClientsState T) → StepDoes facts one s s'
+      → first_rights s'.crowd.common.facts ≡ first_rights s.crowd.common.facts
+  firsts_stay (step.Joins who) s s' does = ap (λ (k : Common). first_rights k.facts) does.1.1
+  firsts_stay (step.Enters who rights) s s' does = ap (λ (k : Common). first_rights k.facts) does.1.1
+  firsts_stay (step.Turned who) s s' does = ap (λ (c : CrowdState). first_rights c.common.facts) does.1
+  firsts_stay (step.Leaves who) s s' does = ap (λ (k : Common). first_rights k.facts) does.1.1
+  firsts_stay (step.Does who d) s s' does = ap (λ (k : Common). first_rights k.facts) does.1.1
+  firsts_stay (step.Asks who said) s s' does = ap (λ (k : Common). first_rights k.facts) does.1.1
+  firsts_stay (step.Tells one) s s' does = ap (λ (k : Common). first_rights k.facts) does.1.1
+  firsts_stay (step.Drops one) s s' does = ap (λ (k : Common). first_rights k.facts) does.1.1
+  firsts_stay (step.Works work) s s' does = ap (λ (c : CrowdState). first_rights c.common.facts) does.2
+  firsts_stay (step.Limits len) s s' does = ap (λ (x : ClientsState T). first_rights x.crowd.common.facts) does
+  firsts_stay (step.Fails is) s s' does = ap (λ (x : ClientsState T). first_rights x.crowd.common.facts) does
+  firsts_stay (step.Renews entries) s s' does =
+      ap (λ (x : ClientsState T). first_rights x.crowd.common.facts) does.2 ∙ sym (ap (λ (tokens : Option (List Token)). first_of tokens) does.1)
 
-  pub told_all : (f : Facts) (steps : List Step) (tales : Tales) (s s' : ClientsState T) → s.crowd.common.facts ≡ f → Runs facts steps s s'
-      → AreTold tales s → AreTold (λ v. behind_steps f v steps (tales v)) s'
+  pub told_all : (f : Facts) (steps : List Step) (tales : Tales) (s s' : ClientsState T) → first_rights s.crowd.common.facts ≡ first_rights f
+      → Runs facts steps s s' → AreTold tales s → AreTold (λ v. behind_steps f v steps (tales v)) s'
   told_all f [] tales s s' same runs told = subst (λ (x : ClientsState T). AreTold tales x) (sym runs) told
   told_all f (one ∷ steps) tales s s' same runs told =
-      told_all f steps (λ v. behind_step f v one (tales v)) runs.0 s' (facts_stay one s runs.0 runs.1 ∙ same) runs.2
+      told_all f steps (λ v. behind_step f v one (tales v)) runs.0 s' (firsts_stay one s runs.0 runs.1 ∙ same) runs.2
       (told_on f one tales s runs.0 same runs.1 told)
 
   -- a line that goes to the room is allowed
@@ -465,13 +471,14 @@ module _ {T : Type 0} (facts : TimelineFacts T) where
   allowed_one (step.Works work) tales s s' does told = tt
   allowed_one (step.Limits len) tales s s' does told = tt
   allowed_one (step.Fails is) tales s s' does told = tt
+  allowed_one (step.Renews entries) tales s s' does told = tt
 
-  pub all_allowed : (f : Facts) (steps : List Step) (tales : Tales) (s s' : ClientsState T) → s.crowd.common.facts ≡ f → Runs facts steps s s'
-      → AreTold tales s → AreAllowed f steps tales
+  pub all_allowed : (f : Facts) (steps : List Step) (tales : Tales) (s s' : ClientsState T) → first_rights s.crowd.common.facts ≡ first_rights f
+      → Runs facts steps s s' → AreTold tales s → AreAllowed f steps tales
   all_allowed f [] tales s s' same runs told = tt
   all_allowed f (one ∷ steps) tales s s' same runs told = (
     allowed_one one tales s runs.0 runs.1 told,
-    all_allowed f steps (λ v. behind_step f v one (tales v)) runs.0 s' (facts_stay one s runs.0 runs.1 ∙ same) runs.2
+    all_allowed f steps (λ v. behind_step f v one (tales v)) runs.0 s' (firsts_stay one s runs.0 runs.1 ∙ same) runs.2
         (told_on f one tales s runs.0 same runs.1 told),
   )
 
@@ -514,4 +521,7 @@ module _ {T : Type 0} (facts : TimelineFacts T) where
       (room_runs steps runs.0 s' runs.2)
   room_runs (step.Fails is ∷ steps) s s' runs =
       subst (λ (r : RoomState T). RoomRuns facts (room_steps steps) r s'.room) (ap (λ (x : ClientsState T). x.room) runs.1)
+      (room_runs steps runs.0 s' runs.2)
+  room_runs (step.Renews entries ∷ steps) s s' runs =
+      subst (λ (r : RoomState T). RoomRuns facts (room_steps steps) r s'.room) (ap (λ (x : ClientsState T). x.room) runs.1.2)
       (room_runs steps runs.0 s' runs.2)

@@ -124,10 +124,14 @@ Carries text c c' =
     IsOpen c × (c.out ≡ text ++ 10 ∷ c'.out) × Adds (λ p. record p { told = p.told ++ text ∷ [] }) c.wire c'.wire
     × (c' ≡ record c { wire = c'.wire; out = c'.out })
 
+-- the bytes that are to be written to it
+abbrev pub bytes_for : ClientState → List ℕ
+bytes_for c = output_of c.wire
+
 -- these bytes went to the socket
 abbrev pub Writes : List ℕ → ClientState → ClientState → Type 0
 Writes bytes c c' =
-    IsOpen c × ((count : ℕ) × (bytes ≡ take count (output_of c.wire)))
+    IsOpen c × ((count : ℕ) × (bytes ≡ take count (bytes_for c)))
     × Adds (λ p. record p { written = p.written ++ bytes }) c.wire c'.wire × (c' ≡ record c { wire = c'.wire })
 
 -- it is told nothing more
@@ -176,6 +180,12 @@ DoesFor k Ended c c' = Ends c c'
 DoesFor k Lost c c' = Loses c c'
 DoesFor k (Upgraded rights unread) c c' = Upgrades rights unread c c'
 
+-- a host may do this of its own accord: all but that bytes are heard, and that some count as written
+abbrev pub IsInnerDeed : Deed → Type 0
+IsInnerDeed (Heard bytes) = ⊥
+IsInnerDeed (Wrote bytes) = ⊥
+IsInnerDeed other = Unit {0}
+
 -- What each call for one client does, with what it does where nothing is to be done or there is no memory.
 
 abbrev pub Rests : ClientState → ClientState → Type 0
@@ -223,4 +233,4 @@ abbrev pub MayGrant : Rights → List ℕ → ClientState → ClientState → Ty
 MayGrant rights text c c' = Grants rights text c c' ⊎ Ends c c'
 
 abbrev pub MayWrite : ℕ → ClientState → ClientState → Type 0
-MayWrite count c c' = (c' ≡ c) ⊎ Writes (take count (output_of c.wire)) c c'
+MayWrite count c c' = (c' ≡ c) ⊎ Writes (take count (bytes_for c)) c c'

@@ -4,7 +4,7 @@ use Rattle.warp_record.specs.declared.line.Line.{Line}
 use Rattle.warp_watch.specs.declared.client_id.ClientId.{ClientId}
 use Rattle.warp_web.specs.Lines.{nothing_passed}
 use Rattle.warp_web.specs.Wire.{IsOutput, Passes}
-use Rattle.warp_clients.specs.Client.{ClientState, Common, Deed, DoesFor, IsMe, IsNext}
+use Rattle.warp_clients.specs.Client.{ClientState, Common, Deed, DoesFor, IsInnerDeed, IsMe, IsNext}
 use Rattle.warp_clients.specs.Sayings.{first_rights}
 use Rattle.warp_clients.specs.declared.saying.Saying.{Saying}
 use Rattle.warp_clients.specs.declared.saying.Saying.TheVariants as saying
@@ -59,10 +59,15 @@ abbrev pub DoEach : Common → List Deed → ClientState → ClientState → Typ
 DoEach k [] c c' = c' ≡ c
 DoEach k (deed ∷ deeds) c c' = (next : ClientState) × DoesFor k deed c next × DoEach k deeds next c'
 
+-- each of these a host may do of its own accord
+abbrev pub AreInnerDeeds : List Deed → Type 0
+AreInnerDeeds [] = Unit {0}
+AreInnerDeeds (deed ∷ deeds) = IsInnerDeed deed × AreInnerDeeds deeds
+
 -- nothing is done, or some such things are done for this client alone
 abbrev pub MovesAt : Common → ClientId → List ClientState → List ClientState → Type 0
 MovesAt k who old new =
-    (new ≡ old) ⊎ Becomes who (λ c c'. (deeds : List Deed) × DoEach k deeds c c') old new
+    (new ≡ old) ⊎ Becomes who (λ c c'. (deeds : List Deed) × AreInnerDeeds deeds × DoEach k deeds c c') old new
 
 abbrev pub Moves : ClientId → CrowdState → CrowdState → Type 0
 Moves who old new = (new.common ≡ old.common) × MovesAt old.common who old.clients new.clients

@@ -5,3 +5,4 @@ pub mod Entering
 pub mod Steps
 pub mod Tale
 pub mod Codes
+pub mod Refusals

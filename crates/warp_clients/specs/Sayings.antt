@@ -74,6 +74,7 @@ IsAsked word.Program = ⊥
 IsAsked word.Names = ⊥
 IsAsked word.Vars = Unit {0}
 IsAsked word.Releases = Unit {0}
+IsAsked word.Digest = Unit {0}
 IsAsked (word.Release number) = Unit {0}
 IsAsked (word.Counts origin) = Unit {0}
 IsAsked (word.Reached origin) = Unit {0}

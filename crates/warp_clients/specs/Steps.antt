@@ -1,13 +1,14 @@
 -- What the calls of a room's clients do, step by step.
-use Rattle.std.specs.Prelude.{◌≡◌, ◌⊎◌, ◌≤◌, ℕ, Bool, false, List, [], ◌∷◌, ◌++◌, map}
+use Rattle.std.specs.Prelude.{◌≡◌, ◌⊎◌, ◌≤◌, ℕ, Bool, false, List, [], ◌∷◌, ◌++◌, Some, map}
 use Rattle.warp_record.specs.declared.line.Line.{Line}
 use Rattle.warp_replica.specs.Answered.{TimelineFacts}
 use Rattle.warp_room.specs.Room.{RoomState}
 use Rattle.warp_room.specs.Steps.{Answered, Came, Executed, Handed, Heard, Left, RoomDoes, RoomStep}
 use Rattle.warp_room.specs.declared.answers.AnsweredLine.{AnsweredLine}
 use Rattle.warp_hub.specs.declared.rights.Rights.{Rights}
+use Rattle.warp_hub.specs.declared.tokens.Entry.{Entry}
 use Rattle.warp_watch.specs.declared.client_id.ClientId.{ClientId}
-use Rattle.warp_clients.specs.Client.{ClientState, Deed, DoesFor, GoesIn, Misses, Replies}
+use Rattle.warp_clients.specs.Client.{ClientState, Deed, DoesFor, GoesIn, IsInnerDeed, Misses, Replies}
 use Rattle.warp_clients.specs.Crowd.{Becomes, CrowdState, GetsPlace, Goes, IsAway}
 use Rattle.warp_clients.specs.Entering.{GetsPlaceAs}
 
@@ -19,7 +20,7 @@ pub record ClientsState (T : Type 0) : Type 0 where
 -- One step. `Joins who`: a client comes. `Enters who rights`: it comes with these rights. `Turned who`: it comes, has no place, and
 -- goes. `Leaves who`: it goes. `Does who deed`: this is done for it. `Asks who said`: its line goes to the room. `Tells one`: the
 -- room's answer goes to who asked. `Drops one`: it goes to nobody. `Works step`: the room works. `Limits len`: of so long a log may
--- be told. `Fails is`: records are refused, or not.
+-- be told. `Fails is`: records are refused, or not. `Renews entries`: the tokens are these from now on, where there were tokens.
 pub data Step : Type 0 where
   Joins : ClientId → Step
   Enters : ClientId → Rights → Step
@@ -32,6 +33,7 @@ pub data Step : Type 0 where
   Works : RoomStep → Step
   Limits : ℕ → Step
   Fails : Bool → Step
+  Renews : List Entry → Step
 
 -- execution, or an answer to a line
 abbrev pub IsWork : RoomStep → Type 0
@@ -45,6 +47,11 @@ IsWork (Handed one) = ⊥
 -- the clients' places change so, and what they have in common stays
 abbrev pub Places : (List ClientState → List ClientState → Type 0) → CrowdState → CrowdState → Type 0
 Places R old new = R old.clients new.clients × (new.common ≡ old.common)
+
+-- the tokens are these, and all else is as it was
+abbrev pub with_tokens : {T : Type 0} → List Entry → ClientsState T → ClientsState T
+with_tokens entries s =
+    record s { crowd = record s.crowd { common = record s.crowd.common { facts = record s.crowd.common.facts { tokens = Some entries } } } }
 
 -- what a step does
 abbrev pub StepDoes : {T : Type 0} → TimelineFacts T → Step → ClientsState T → ClientsState T → Type 0
@@ -70,12 +77,34 @@ StepDoes facts (Drops one) s s' =
 StepDoes facts (Works step) s s' = IsWork step × RoomDoes facts step s.room s'.room × (s'.crowd ≡ s.crowd)
 StepDoes facts (Limits len) s s' = s' ≡ record s { crowd = record s.crowd { common = record s.crowd.common { limit = len } } }
 StepDoes facts (Fails is) s s' = s' ≡ record s { crowd = record s.crowd { common = record s.crowd.common { failing = is } } }
+StepDoes facts (Renews entries) s s' =
+    (before : List Entry) × (s.crowd.common.facts.tokens ≡ Some before) × (s' ≡ with_tokens entries s)
 
 -- these steps, one after another
 abbrev pub Runs : {T : Type 0} → TimelineFacts T → List Step → ClientsState T → ClientsState T → Type 0
 Runs facts [] s s' = s' ≡ s
 Runs {T} facts (step ∷ steps) s s' = (next : ClientsState T) × StepDoes facts step s next × Runs facts steps next s'
 
--- some steps
+-- A host may take this step of its own accord: nobody comes, nothing is heard, nothing counts as written, and it changes
+-- neither of how long a log may be told, nor whether records are refused, nor the tokens.
+abbrev pub IsInner : Step → Type 0
+IsInner (Joins who) = ⊥
+IsInner (Enters who rights) = ⊥
+IsInner (Turned who) = ⊥
+IsInner (Leaves who) = Unit {0}
+IsInner (Does who deed) = IsInnerDeed deed
+IsInner (Asks who said) = Unit {0}
+IsInner (Tells one) = Unit {0}
+IsInner (Drops one) = Unit {0}
+IsInner (Works step) = Unit {0}
+IsInner (Limits len) = ⊥
+IsInner (Fails is) = ⊥
+IsInner (Renews entries) = ⊥
+
+abbrev pub AreInner : List Step → Type 0
+AreInner [] = Unit {0}
+AreInner (step ∷ steps) = IsInner step × AreInner steps
+
+-- some steps that a host may take of its own accord
 abbrev pub SomeRun : {T : Type 0} → TimelineFacts T → ClientsState T → ClientsState T → Type 0
-SomeRun facts s s' = (steps : List Step) × Runs facts steps s s'
+SomeRun facts s s' = (steps : List Step) × AreInner steps × Runs facts steps s s'

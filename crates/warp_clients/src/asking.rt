@@ -1,4 +1,4 @@
-//! What is asked about the replica, and what was told of it.
+//! What is asked about the replica and its log, and what was told of it.
 
 ghost use Rattle.std.specs.Prelude.{IfSome};
 ghost use Rattle.warp_clients.specs.Sayings.{IsAsked};
@@ -6,21 +6,31 @@ ghost use Rattle.warp_clients.specs.Sayings.{IsAsked};
 use std::alloc::Global;
 use std::collections::VecDeque;
 use warp_hub::Word;
-use warp_watch::{ClientId, Question, Told};
+use warp_watch::{ClientId, Question};
 
 /// How many answers may wait until they may be told.
 pub(crate) const MOST_TOLD: usize = 64;
 
+/// What a word asks.
+#[derive(Clone, Copy)]
+pub(crate) enum Asks {
+    /// This of the replica, where all is executed.
+    Of(Question),
+    /// The digest of the log.
+    Digest,
+}
+
 /// What a word asks; `None` where it is answered without.
-pub(crate) fn question_of(word: &Word) -> Option<Question>
+pub(crate) fn asks_of(word: &Word) -> Option<Asks>
     ensures { IfSome result (λ asked. IsAsked word.now) }
 {
     match *word {
-        Word::Vars => Some(Question::Vars),
-        Word::Releases => Some(Question::Releases),
-        Word::Release(number) => Some(Question::Release(number)),
-        Word::Counts(origin) => Some(Question::Counts(origin)),
-        Word::Reached(origin) => Some(Question::Reached(origin)),
+        Word::Vars => Some(Asks::Of(Question::Vars)),
+        Word::Releases => Some(Asks::Of(Question::Releases)),
+        Word::Digest => Some(Asks::Digest),
+        Word::Release(number) => Some(Asks::Of(Question::Release(number))),
+        Word::Counts(origin) => Some(Asks::Of(Question::Counts(origin))),
+        Word::Reached(origin) => Some(Asks::Of(Question::Reached(origin))),
         Word::Program => None,
         Word::Names => None,
         Word::Watch(_) => None,
@@ -35,18 +45,27 @@ pub(crate) struct Asked {
     pub(crate) question: Question,
 }
 
-/// What was told to a client's question, and waits until it may be told on.
+/// A client's word asks for the digest, of a log of no fewer records than so many.
+#[derive(Clone, Copy)]
+struct Counting {
+    who: ClientId,
+    least: u32,
+}
+
+/// What was told to a client's question, of a log of this length, and waits until it may be told on.
 #[derive(Drop)]
 pub(crate) struct Waiting {
     pub(crate) who: ClientId,
-    pub(crate) told: Told,
+    pub(crate) len: u32,
+    pub(crate) text: Vec<u8>,
 }
 
-/// The questions, and what was told to them, each in order.
+/// The questions, who waits for the digest, and what was told, each in order.
 #[derive(Drop)]
 pub(crate) struct Asking {
-    pub(crate) asked: VecDeque<Asked>,
-    pub(crate) told: VecDeque<Waiting>,
+    asked: VecDeque<Asked>,
+    counting: VecDeque<Counting>,
+    told: VecDeque<Waiting>,
 }
 
 impl Asking {
@@ -54,32 +73,61 @@ impl Asking {
     pub(crate) fn new(alloc: Global) -> Asking {
         Asking {
             asked: VecDeque::new(alloc),
+            counting: VecDeque::new(alloc),
             told: VecDeque::new(alloc),
         }
     }
 
-    /// A client's word asks this; whether there was memory.
-    pub(crate) fn want(&mut self, who: ClientId, question: Question) -> bool {
-        self.asked.push_back(Asked { who, question }).is_ok()
+    /// A client's word asks this, of a log of so many records; whether there was memory.
+    pub(crate) fn want(&mut self, who: ClientId, asks: Asks, len: u32) -> bool {
+        match asks {
+            Asks::Of(question) => self.asked.push_back(Asked { who, question }).is_ok(),
+            Asks::Digest => self
+                .counting
+                .push_back(Counting { who, least: len })
+                .is_ok(),
+        }
+    }
+
+    /// Whether as much was told as may wait until it may be told on.
+    fn is_full(&self) -> bool {
+        self.told.len() >= MOST_TOLD
     }
 
     /// What was asked first, if there is room for what is told to it.
     pub(crate) fn next_asked(&mut self) -> Option<Asked> {
-        if self.told.len() >= MOST_TOLD {
+        if self.is_full() {
             return None;
         }
         self.asked.pop_front()
     }
 
-    /// What was told waits; whether there was memory.
-    pub(crate) fn keep(&mut self, who: ClientId, told: Told) -> bool {
-        self.told.push_back(Waiting { who, told }).is_ok()
+    /// Whether somebody waits until more than so many records are counted into the digest.
+    pub(crate) fn wants_more(&self, counted: u32) -> bool {
+        match self.counting.front() {
+            Some(first) => first.least > counted,
+            None => false,
+        }
+    }
+
+    /// Who asked first for the digest, if so many records are enough and there is room for what is told.
+    pub(crate) fn next_counted(&mut self, counted: u32) -> Option<ClientId> {
+        if self.is_full() || self.wants_more(counted) {
+            return None;
+        }
+        let first = self.counting.pop_front()?;
+        Some(first.who)
+    }
+
+    /// What was told of a log of this length waits; whether there was memory.
+    pub(crate) fn keep(&mut self, who: ClientId, len: u32, text: Vec<u8>) -> bool {
+        self.told.push_back(Waiting { who, len, text }).is_ok()
     }
 
     /// What was told first, if it is of a log of no more records than so many.
     pub(crate) fn next_within(&mut self, limit: u32) -> Option<Waiting> {
         let first = self.told.front()?;
-        if first.told.len > limit {
+        if first.len > limit {
             return None;
         }
         self.told.pop_front()

@@ -8,6 +8,7 @@ ghost use Rattle.warp_clients.specs.declared.saying.Saying.{Saying};
 ghost use Rattle.warp_record.specs.Lines.{piece_of};
 
 use crate::saying::{Saying, first_rights, is_strange, read_saying};
+use crate::tokens::digest_said;
 use crate::watching::{NO_SUBJECTS, Subjects};
 use bytes::BytesMut;
 use std::alloc::Global;
@@ -77,6 +78,8 @@ pub(crate) struct Client {
     pub(crate) watches: Subjects,
     /// It is over once it has said the whole lines that came.
     pub(crate) ceases: bool,
+    /// The digest of the last token that it said, of those that there were.
+    pub(crate) token: Option<[u8; 32]>,
 }
 
 impl Model for Client {
@@ -123,6 +126,7 @@ impl Client {
             is_listed: false,
             watches: NO_SUBJECTS,
             ceases: false,
+            token: None,
         }
     }
 
@@ -270,7 +274,9 @@ impl Client {
             self.has_ended = true;
         }
         self.has_spoken = true;
-        self.slot = Some(read_saying(facts, &self.rights, is_failing, fed));
+        let said = read_saying(facts, &self.rights, is_failing, fed);
+        self.token = digest_said(facts, &said, fed).or(self.token);
+        self.slot = Some(said);
     }
 
     /// Answers the requests that came.

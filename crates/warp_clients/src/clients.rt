@@ -1,15 +1,15 @@
 //! All clients of a room: their calls.
-ghost use Rattle.std.specs.Prelude.{◌≡◌, ◌⊎◌, ◌≤◌, [], ℕ, List, Some, false, true, IfErr, IfNone, IfOk, IfSome, OnErr, OnOk};
+ghost use Rattle.std.specs.Prelude.{◌≡◌, ◌⊎◌, ◌≤◌, [], Some, false, true, IfErr, IfNone, IfOk, IfSome, OnErr, OnOk};
 ghost use Rattle.std.specs.Prelude.{IsTrue, length, slice_get, take, ◌∷◌, ◌++◌};
 ghost use Rattle.warp_replica.specs.Answered.{facts_of};
 ghost use Rattle.warp_room.specs.Steps.{Works};
 ghost use Rattle.warp_watch.specs.declared.client_id.ClientId.{ClientId};
-ghost use Rattle.warp_clients.specs.Client.{ClientState, Ended, HasLine, Heard, IsMe, Lost, Pushed, Wrote};
+ghost use Rattle.warp_clients.specs.Client.{ClientState, Ended, HasLine, Heard, IsMe, Lost, Pushed, Wrote, bytes_for};
 ghost use Rattle.warp_clients.specs.Crowd.{IsAway, IsOutputOf, IsThere};
 ghost use Rattle.warp_clients.specs.Steps.{SomeRun, StepDoes};
 ghost use Rattle.warp_clients.specs.Steps as steps;
 
-use crate::asking::{Asked, Asking, MOST_TOLD, Waiting};
+use crate::asking::{Asked, Asking, Asks, MOST_TOLD, Waiting};
 use crate::client::Listened;
 use crate::crowd::{Crowd, Due};
 use std::alloc::Global;
@@ -19,7 +19,7 @@ use warp_hub::{Facts, Rights};
 use warp_line::Timeline;
 use warp_record::{Line, Look};
 use warp_room::{AnsweredLine, Room, Worked};
-use warp_watch::{ClientId, Question};
+use warp_watch::ClientId;
 use warp_web::{Answers, Gone};
 
 /// How many lines of a client are heard in a round.
@@ -29,7 +29,7 @@ const MOST_LINES: u32 = 64;
 const MOST_HANDED: u32 = 65_536;
 
 /// The answer to a word for which there was no memory.
-const NO_MEMORY: &[u8] = b"refused 8\n";
+pub(crate) const NO_MEMORY: &[u8] = b"refused 8\n";
 
 /// What answers requests, and finds the rights with which a request may upgrade.
 pub trait Visits: Answers {
@@ -52,7 +52,7 @@ pub struct Clients<T: Timeline> {
     pub(crate) alloc: Global,
     pub(crate) room: Room<T>,
     pub(crate) crowd: Crowd,
-    asking: Asking,
+    pub(crate) asking: Asking,
 }
 
 impl<T: Timeline> Model for Clients<T> {
@@ -278,7 +278,7 @@ impl<T: Timeline> Clients<T> {
         match self.settle_here(who) {
             Due::Nothing => {}
             Due::Look(look) => self.look(who, look),
-            Due::Ask(question) => self.want(who, question),
+            Due::Ask(asks) => self.want(who, asks),
         }
         self.note(who);
     }
@@ -314,23 +314,23 @@ impl<T: Timeline> Clients<T> {
     }
 
     /// A client's word asks this. Without memory its connection is lost.
-    fn want(&mut self, who: ClientId, question: Question)
+    fn want(&mut self, who: ClientId, asks: Asks)
         ensures { SomeRun (facts_of T.settled T.refused T.floor T.SLACK) self.old self.new }
     {
-        if !self.wants_to_ask(who, question) {
+        if !self.wants_to_ask(who, asks) {
             self.give_up(who);
         }
     }
 
     /// A client's word asks this; whether there was memory.
-    fn wants_to_ask(&mut self, who: ClientId, question: Question) -> bool
+    fn wants_to_ask(&mut self, who: ClientId, asks: Asks) -> bool
         ensures { self.new ≡ self.old }
     {
-        self.asking.want(who, question)
+        self.asking.want(who, asks, self.room.len())
     }
 
     /// There is something to do for a client.
-    fn note(&mut self, who: ClientId)
+    pub(crate) fn note(&mut self, who: ClientId)
         ensures { self.new ≡ self.old }
     {
         self.crowd.note(who);
@@ -367,6 +367,7 @@ impl<T: Timeline> Clients<T> {
     {
         self.hand_answers();
         self.tell_asked();
+        self.tell_digests();
         self.tell_words();
     }
 
@@ -418,8 +419,7 @@ impl<T: Timeline> Clients<T> {
         ensures { SomeRun (facts_of T.settled T.refused T.floor T.SLACK) self.old self.new }
     {
         if !self.is_told(asked) {
-            self.speak_told(asked.who, 0, NO_MEMORY);
-            self.note(asked.who);
+            self.refuse_word(asked.who);
         }
     }
 
@@ -428,7 +428,7 @@ impl<T: Timeline> Clients<T> {
         ensures { SomeRun (facts_of T.settled T.refused T.floor T.SLACK) self.old self.new }
     {
         match self.room.tell(self.alloc, asked.question) {
-            Ok(told) => self.asking.keep(asked.who, told),
+            Ok(told) => self.asking.keep(asked.who, told.len, told.text),
             Err(_) => false,
         }
     }
@@ -441,7 +441,7 @@ impl<T: Timeline> Clients<T> {
             let Some(next) = self.next_told() else {
                 return;
             };
-            self.speak_told(next.who, next.told.len, &next.told.text);
+            self.speak_told(next.who, next.len, &next.text);
             self.note(next.who);
         }
     }
@@ -454,7 +454,7 @@ impl<T: Timeline> Clients<T> {
     }
 
     /// A client's word is answered by this text, which tells of a log of this length, if that may be told.
-    fn speak_told(&mut self, who: ClientId, len: u32, text: &[u8])
+    pub(crate) fn speak_told(&mut self, who: ClientId, len: u32, text: &[u8])
         ensures { SomeRun (facts_of T.settled T.refused T.floor T.SLACK) self.old self.new }
     {
         self.crowd.speak_told(who, len, text);
@@ -490,8 +490,8 @@ impl<T: Timeline> Clients<T> {
 
     /// The first so many bytes of a client's output were written.
     pub fn written(&mut self, who: ClientId, count: usize)
-        ensures { (self.new ≡ self.old) ⊎ ((bytes : List ℕ) ×
-            StepDoes (facts_of T.settled T.refused T.floor T.SLACK) (steps.Does who (Wrote bytes)) self.old self.new) }
+        ensures { (self.new ≡ self.old) ⊎ IsThere who (λ c. StepDoes (facts_of T.settled T.refused T.floor T.SLACK)
+            (steps.Does who (Wrote (take count (bytes_for c)))) self.old self.new) self.old.crowd.clients }
     {
         self.crowd.written(who, count);
     }

@@ -1,7 +1,16 @@
 //! What is counted of a room's clients. Contracts see nothing of it.
 
 use crate::client::Listened;
+use crate::refusals::{Refusals, number_in};
 use crate::saying::Saying;
+use warp_record::{Refusal, Reply};
+use warp_replica::Answer;
+
+/// The number of the refusal of what may not be sent, and of a token that is none.
+const NOT_ALLOWED: usize = 13;
+
+/// The number of the refusal of records while the journal can't be written.
+const NOT_DURABLE: usize = 14;
 
 /// What was counted since the clients were made.
 #[derive(Clone, Copy, Debug)]
@@ -10,8 +19,8 @@ pub struct Counts {
     pub lines: u64,
     /// How many answers were told, of the room and of those that are given before it.
     pub replies: u64,
-    /// How many of them were `refused K`, but for those of the room.
-    pub refused: u64,
+    /// How many of them were `refused K`, by K.
+    pub refusals: Refusals,
     /// How many times lines were pushed to a client.
     pub pushes: u64,
     /// The greatest length of the log of which something was told.
@@ -22,7 +31,7 @@ pub struct Counts {
 pub(crate) const NO_COUNTS: Counts = Counts {
     lines: 0,
     replies: 0,
-    refused: 0,
+    refusals: Refusals::NONE,
     pushes: 0,
     newest: 0,
 };
@@ -40,10 +49,20 @@ impl Counts {
         self.replies = self.replies.wrapping_add(1);
     }
 
-    /// A refusal was told.
-    pub(crate) fn refused(&mut self) {
+    /// A refusal of this number was told.
+    fn refused(&mut self, number: usize) {
         self.spoke();
-        self.refused = self.refused.wrapping_add(1);
+        self.refusals.note(number);
+    }
+
+    /// This refusal was told.
+    fn refused_by(&mut self, refusal: Refusal) {
+        self.refused(refusal.number() as usize);
+    }
+
+    /// A token was refused.
+    pub(crate) fn refused_token(&mut self) {
+        self.refused(NOT_ALLOWED);
     }
 
     /// The log was seen to be so long.
@@ -51,24 +70,34 @@ impl Counts {
         self.newest = self.newest.max(len);
     }
 
-    /// The room's answer, of a log of this length, was told, or not.
-    pub(crate) fn replied(&mut self, is_told: bool, len: u32) {
-        if is_told {
-            self.spoke();
+    /// The room's answer was told, or not.
+    pub(crate) fn replied(&mut self, is_told: bool, answer: &Answer) {
+        self.see(answer.len);
+        if !is_told {
+            return;
         }
-        self.see(len);
+        match answer.reply {
+            Reply::Refused(refusal) => self.refused_by(refusal),
+            _ => self.spoke(),
+        }
     }
 
-    /// A word was answered by what tells of a log of this length.
-    pub(crate) fn told(&mut self, len: u32) {
-        self.spoke();
+    /// A word was answered by this text, which tells of a log of this length.
+    pub(crate) fn told(&mut self, len: u32, text: &[u8]) {
         self.see(len);
+        self.spoke();
+        let number = number_in(text);
+        if number > 0 {
+            self.refusals.note(number);
+        }
     }
 
     /// This is answered before the room.
     pub(crate) fn answered(&mut self, said: &Saying) {
         match *said {
-            Saying::Refuse(_) | Saying::NotAllowed | Saying::NotDurable => self.refused(),
+            Saying::Refuse(refusal) => self.refused_by(refusal),
+            Saying::NotAllowed => self.refused(NOT_ALLOWED),
+            Saying::NotDurable => self.refused(NOT_DURABLE),
             Saying::Line(_) | Saying::Word(_) | Saying::Look(_) | Saying::Token(_) => self.spoke(),
         }
     }

@@ -6,7 +6,7 @@ ghost use Rattle.warp_clients.specs.declared.saying.Saying.TheVariants.{Token};
 ghost use Rattle.warp_clients.specs.declared.saying.Saying.TheVariants as saying;
 ghost use Rattle.warp_clients.specs.Crowd.{Becomes, GetsPlace, Goes, IsAway, IsThere, MayDo, Moves};
 
-use crate::asking::question_of;
+use crate::asking::{Asks, asks_of};
 use crate::client::{Client, Listened};
 use crate::counts::{Counts, NO_COUNTS};
 use crate::places::Places;
@@ -20,7 +20,7 @@ use std::marker::Model;
 use warp_hub::{Facts, Rights, Word};
 use warp_record::{Line, Look, Reply};
 use warp_room::AnsweredLine;
-use warp_watch::{ClientId, Question};
+use warp_watch::ClientId;
 use warp_web::{Answers, Gone};
 
 /// What is due for a client whose earlier lines are all answered.
@@ -30,8 +30,8 @@ pub(crate) enum Due {
     Nothing,
     /// The answer to a look.
     Look(Look),
-    /// The answer to a question.
-    Ask(Question),
+    /// The answer to what is asked.
+    Ask(Asks),
 }
 
 /// All clients.
@@ -246,7 +246,7 @@ impl Crowd {
             return false;
         }
         let is_told = self.places.reply(one, &self.text);
-        self.counts.replied(is_told, one.answer.len);
+        self.counts.replied(is_told, &one.answer);
         is_told
     }
 
@@ -288,8 +288,8 @@ impl Crowd {
         requires is { said.now ≡ saying.Word word.now }
         ensures { Moves who self.old self.new }
     {
-        if let Some(question) = question_of(word) {
-            return Due::Ask(question);
+        if let Some(asks) = asks_of(word) {
+            return Due::Ask(asks);
         }
         if is_watch(word) {
             self.watch(who, said, word);
@@ -317,7 +317,7 @@ impl Crowd {
         requires { IsThere who (IsNext (Token None)) self.old.clients }
         ensures { Moves who self.old self.new }
     {
-        self.counts.refused();
+        self.counts.refused_token();
         self.places.refuse(who, NOT_ALLOWED);
     }
 

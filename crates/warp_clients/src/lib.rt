@@ -11,22 +11,26 @@ mod client;
 mod clients;
 mod counts;
 mod crowd;
+mod digests;
 mod entering;
 mod law;
 mod looking;
 mod places;
+mod refusals;
 mod saying;
 mod telling;
 #[cfg(test)]
 mod tests;
 mod texts;
+mod tokens;
 mod watching;
 mod writing;
 
 pub use clients::{Clients, Refused, Visits};
 pub use counts::Counts;
 pub use law::what_is_told;
-pub use warp_room::{Progress, Untold, Worked};
+pub use refusals::{MOST_REFUSALS, Refusals};
+pub use warp_room::{Digested, Progress, Untold, Worked};
 pub use warp_watch::ClientId;
 pub use warp_web::{Answers, Gone, Kind};
 pub use watching::Watched;

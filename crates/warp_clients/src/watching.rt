@@ -35,6 +35,7 @@ pub(crate) fn is_watch(word: &Word) -> bool
         | Word::Names
         | Word::Vars
         | Word::Releases
+        | Word::Digest
         | Word::Release(_)
         | Word::Counts(_)
         | Word::Reached(_) => false,
@@ -84,6 +85,7 @@ impl Subjects {
             | Word::Names
             | Word::Vars
             | Word::Releases
+            | Word::Digest
             | Word::Release(_)
             | Word::Counts(_)
             | Word::Reached(_) => {}

@@ -6,7 +6,7 @@ ghost use Rattle.warp_clients.specs.Sayings.{IsOwn};
 ghost use Rattle.warp_clients.specs.declared.saying.Saying.TheVariants as saying;
 ghost use Rattle.warp_clients.specs.Crowd.{Becomes, IsAway, IsOutputOf, IsThere, MayDo, Moves};
 
-use crate::asking::question_of;
+use crate::asking::asks_of;
 use crate::crowd::Crowd;
 use crate::saying::Saying;
 use crate::texts::spell_reply;
@@ -48,7 +48,7 @@ impl Crowd {
             return;
         };
         if let Saying::Word(word) = said {
-            if len <= self.limit && question_of(&word).is_some() {
+            if len <= self.limit && asks_of(&word).is_some() {
                 self.speak_word(who, &said, len, text);
             }
         }
@@ -61,7 +61,7 @@ impl Crowd {
         requires most { len ≤ self.old.common.limit }
         ensures { Moves who self.old self.new }
     {
-        self.counts.told(len);
+        self.counts.told(len, text);
         self.places.speak(who, &self.facts, said, text);
     }
 

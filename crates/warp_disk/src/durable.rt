@@ -1,7 +1,10 @@
 //! How much of the log is in the journal's file and on the disk, how much of it may be told, and how the threads that
 //! write and sync are woken and ended.
-ghost use Rattle.std.specs.Prelude.{◌≡◌};
-ghost use Rattle.warp_disk.specs.Telling.{longest};
+ghost use Rattle.std.specs.Prelude.{◌≡◌, ◌-◌, ◌≤◌, None, Some};
+ghost use Rattle.std.specs.declared.time.Duration.{Duration};
+ghost use Rattle.warp_tag.specs.Limits.{last_number};
+ghost use Rattle.warp_disk.specs.Telling.{longest, millis_of, nothing_waits, tells_of};
+ghost use Rattle.warp_disk.specs.declared.durable.Tells.{Tells};
 
 use crate::tallies::{Synced, Written};
 use std::sync::Wait;
@@ -16,7 +19,10 @@ const NOTHING_WAITS: u64 = u64::MAX;
 const SLOW: u64 = 5_000;
 
 /// This moment, in milliseconds of the clock, or that there is none.
-fn moment_of(since: Option<Duration>) -> u64 {
+fn moment_of(since: Option<Duration>) -> u64
+    ensures none { since ≡ None → result ≡ nothing_waits }
+    ensures some { (moment : Duration) → since ≡ Some moment → millis_of moment ≤ nothing_waits → result ≡ millis_of moment }
+{
     match since {
         Some(since) => u64::try_from(since.as_millis()).unwrap_or(0),
         None => NOTHING_WAITS,
@@ -24,7 +30,9 @@ fn moment_of(since: Option<Duration>) -> u64 {
 }
 
 /// How many milliseconds have passed since this moment.
-fn passed(now: Duration, since: u64) -> u64 {
+fn passed(now: Duration, since: u64) -> u64
+    ensures { millis_of now ≤ nothing_waits → result ≡ millis_of now - since }
+{
     let now = u64::try_from(now.as_millis()).unwrap_or(0);
     now.saturating_sub(since)
 }
@@ -76,7 +84,9 @@ pub struct Durable {
 
 impl Durable {
     /// So many records are in the file and on the disk.
-    pub(crate) fn new(tells: Tells, count: u32) -> Durable {
+    pub(crate) fn new(tells: Tells, count: u32) -> Durable
+        ensures { tells_of result ≡ tells }
+    {
         Durable {
             tells,
             taken: AtomicU32::new(count),
@@ -96,7 +106,9 @@ impl Durable {
     }
 
     /// The longest log that may be told of now.
-    pub fn limit(&self) -> u32 {
+    pub fn limit(&self) -> u32
+        ensures { tells_of self.now ≡ Tells.All → result ≡ last_number }
+    {
         longest(self.tells, self.written(), self.synced())
     }
 

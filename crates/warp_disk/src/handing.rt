@@ -1,8 +1,12 @@
 //! The way of new records from the log to the journal's thread.
+ghost use Rattle.std.specs.Prelude.{◌≡◌, ◌++◌, ◌≤◌, [], length, take, true, IfOk, IfSome};
+ghost use Rattle.rtrb.specs.Ring.{known_free, received, sent};
+ghost use Rattle.warp_disk.specs.Handing.{Begins, Hands, IsWanted, StaysHanded, TakesHanded, TakesNext, is_all_handed, since};
 
 use crate::durable::Durable;
-use rtrb::Producer;
+use rtrb::{Consumer, Producer};
 use std::alloc::Global;
+use warp_journal::{Disk, Failed, Keeper};
 use warp_record::Record;
 
 /// The places of the ring of what is handed.
@@ -18,7 +22,7 @@ pub const MOST_BATCHES: usize = RING_ROOM / BATCH;
 /// the so-manieth time.
 #[derive(Clone, Copy)]
 pub(crate) struct Handed {
-    pub(crate) record: Record,
+    pub(crate) entry: Record,
     pub(crate) beginning: u32,
 }
 
@@ -44,9 +48,71 @@ pub struct Handing {
     beginnings: u32,
 }
 
+/// Hands these records by the ring, in their order, while there is room: how many of them.
+fn hand_all(ring: &mut Producer<Handed>, records: &[Record], beginning: u32) -> usize
+    ensures most { result ≤ length records.now }
+    ensures sent { sent ring.new ≡ sent ring.old ++ since beginning (take result records.now) }
+    ensures all { length records.now ≤ known_free ring.old → result ≡ length records.now }
+{
+    let mut count = 0;
+    for entry in records {
+        let handed = Handed {
+            entry: *entry,
+            beginning,
+        };
+        if ring.push(handed).is_err() {
+            return count;
+        }
+        count += 1;
+    }
+    count
+}
+
+/// The next record that was handed since the log was asked for from its beginning for the so-manieth time. What was handed
+/// since an earlier time is passed over.
+pub(crate) fn next_since(handed: &mut Consumer<Handed>, beginning: u32) -> Option<Record>
+    ensures { TakesNext beginning result (received handed.old) (received handed.new) }
+{
+    for _ in 0..RING_ROOM {
+        let Ok(next) = handed.pop() else {
+            return None;
+        };
+        let Handed {
+            entry,
+            beginning: begun,
+        } = next;
+        if begun == beginning {
+            return Some(entry);
+        }
+    }
+    None
+}
+
+/// Has the journal take what was handed since then, in its order; how many records that was. `Err` where there is no memory.
+pub(crate) fn take_handed<D: Disk>(
+    keeper: &mut Keeper<D>,
+    handed: &mut Consumer<Handed>,
+    beginning: u32,
+    second: u64,
+) -> Result<usize, Failed>
+    ensures { IfOk result (λ count. TakesHanded D.written beginning count keeper.old keeper.new (received handed.old) (received handed.new)) }
+{
+    let mut count = 0;
+    for _ in 0..RING_ROOM {
+        let Some(entry) = next_since(handed, beginning) else {
+            return Ok(count);
+        };
+        keeper.take(&entry, second)?;
+        count += 1;
+    }
+    Ok(count)
+}
+
 impl Handing {
     /// Of the log so many records need not be handed; without a ring none.
-    pub(crate) fn new(alloc: Global, ring: Option<Producer<Handed>>, count: u32) -> Handing {
+    pub(crate) fn new(alloc: Global, ring: Option<Producer<Handed>>, count: u32) -> Handing
+        ensures { (result.ring ≡ ring) × (result.count ≡ count) × (result.beginnings ≡ 0) }
+    {
         Handing {
             ring,
             batch: Vec::new(alloc),
@@ -56,7 +122,9 @@ impl Handing {
     }
 
     /// Begins with the log anew where that is asked for.
-    pub fn begin(&mut self, durable: &Durable) {
+    pub fn begin(&mut self, durable: &Durable)
+        ensures { Begins self.old self.new }
+    {
         let wanted = durable.beginnings();
         if wanted != self.beginnings {
             self.beginnings = wanted;
@@ -65,7 +133,10 @@ impl Handing {
     }
 
     /// Which records are wanted of a log that has so many, if there are new ones, and room.
-    pub fn wants(&mut self, len: u32) -> Option<Wanted> {
+    pub fn wants(&mut self, len: u32) -> Option<Wanted>
+        ensures some { IfSome result (λ wanted. IsWanted len wanted self.new) }
+        ensures same { StaysHanded self.old self.new }
+    {
         let Some(ring) = &mut self.ring else {
             return None;
         };
@@ -80,34 +151,43 @@ impl Handing {
     }
 
     /// Where those records are put that are wanted: it is empty.
-    pub fn batch(&mut self) -> &mut Vec<Record> {
+    pub fn batch(&mut self) -> &mut Vec<Record>
+        ensures { result.now.items ≡ [] }
+    {
         self.batch.clear();
         &mut self.batch
     }
 
-    /// Hands the records that were put there, and wakes the journal's thread where there were any.
-    pub fn hand(&mut self, durable: &Durable) {
+    /// Hands the records that were put there, in their order, all where there is room, and wakes the journal's thread where
+    /// there were any.
+    pub fn hand(&mut self, durable: &Durable)
+        ensures { Hands self.old self.new }
+    {
+        let before = self.count;
         let Some(ring) = &mut self.ring else {
             return;
         };
-        for record in &self.batch {
-            let handed = Handed {
-                record: *record,
-                beginning: self.beginnings,
-            };
-            let _ = ring.push(handed);
-            self.count = self.count.saturating_add(1);
-        }
-        if !self.batch.is_empty() {
+        let count = hand_all(ring, &self.batch, self.beginnings);
+        self.count = before.saturating_add(u32::try_from(count).unwrap_or(u32::MAX));
+        if count > 0 {
             durable.wake_scribe();
         }
+    }
+
+    /// Whether all of a log of this length was handed, or there is no ring.
+    fn is_all_handed(&self, len: u32) -> bool
+        ensures { result ≡ is_all_handed len self.now }
+    {
+        self.ring.is_none() || self.count >= len
     }
 
     /// At the end of a host with a log of this length: whether nothing more is to be handed. That is so where all of the
     /// log was, and where the journal can't be written: then it is noted as failed, though it may be written anew without
     /// the rest.
-    pub fn is_done(&self, len: u32, durable: &Durable) -> bool {
-        if self.ring.is_none() || self.count >= len {
+    pub fn is_done(&self, len: u32, durable: &Durable) -> bool
+        ensures { is_all_handed len self.now ≡ true → result ≡ true }
+    {
+        if self.is_all_handed(len) {
             return true;
         }
         if durable.is_failing() {

@@ -1,4 +1,7 @@
 //! What goes wrong with the file of a journal, and how it is told.
+ghost use Rattle.std.specs.Prelude.{◌≡◌, ◌⊎◌};
+ghost use Rattle.warp_disk.specs.Telling.{IsToldAs};
+ghost use Rattle.warp_disk.specs.declared.journal_faults.OpenFault.{OpenFault};
 
 use std::alloc::AllocError;
 use std::io::{self, Eprint, ErrorKind};
@@ -21,7 +24,9 @@ pub enum OpenFault {
 }
 
 impl From<io::Error> for OpenFault {
-    fn from(error: io::Error) -> OpenFault {
+    fn from(error: io::Error) -> OpenFault
+        ensures { (result ≡ OpenFault.NoMemory) ⊎ (result ≡ OpenFault.Unusable) }
+    {
         match error.kind() {
             ErrorKind::OutOfMemory => OpenFault::NoMemory,
             _ => OpenFault::Unusable,
@@ -114,7 +119,9 @@ impl FileFault {
 }
 
 /// Tells on standard error what is wrong with the journal at this path, and gives it without what the system says.
-pub fn tell_file_fault<X: Eprint>(rt: &X, path: &str, fault: FileFault) -> OpenFault {
+pub fn tell_file_fault<X: Eprint>(rt: &X, path: &str, fault: FileFault) -> OpenFault
+    ensures { IsToldAs fault result }
+{
     match fault {
         FileFault::Open(fault) => {
             tell_open_fault(rt, path, fault);

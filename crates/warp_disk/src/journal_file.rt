@@ -1,6 +1,8 @@
 //! The file of a journal: it is locked, read and mended before a host begins.
-ghost use Rattle.std.specs.Prelude.{◌≡◌};
-ghost use Rattle.warp_disk.specs.Telling.{told_with};
+ghost use Rattle.std.specs.Prelude.{◌≡◌, ◌++◌, ℕ, List, OnOk};
+ghost use Rattle.warp_record.specs.declared.record.Record.{Record};
+ghost use Rattle.warp_journal.specs.Keeping.{KeepsAll};
+ghost use Rattle.warp_disk.specs.Telling.{IsInterval, IsSynced, told_with};
 
 use crate::durable::Tells;
 use crate::fresh_file::{
@@ -34,7 +36,9 @@ pub enum SyncWhen {
 
 impl SyncWhen {
     /// How long a record may wait to be brought to the disk by this host.
-    pub(crate) fn interval(self) -> Duration {
+    pub(crate) fn interval(self) -> Duration
+        ensures { IsInterval «self» result }
+    {
         match self {
             SyncWhen::Always => Duration::from_millis(0),
             SyncWhen::Every(milliseconds) => Duration::from_millis(milliseconds),
@@ -206,9 +210,8 @@ pub fn words_of(fault: Fault) -> &'static str {
 /// Tells that this line is damaged, and what to do.
 fn tell_damage<X: Eprint>(rt: &X, fault: Fault, line: u64) {
     let why = words_of(fault);
-    let _ = eprintln!(rt;
-        "journal: line {line} {why}; `warpd journal repair FILE` keeps what is in front of it"
-    );
+    let kept = "what is in front of it, and where it is a wrong sum only up to the last right one";
+    let _ = eprintln!(rt; "journal: line {line} {why}; `warpd journal repair FILE` keeps {kept}");
 }
 
 /// Tells what was at the end of a journal that was read, how many bytes of it were cut off, and the path of the file that
@@ -249,7 +252,9 @@ fn replay<T: Timeline>(
     alloc: Global,
     replica: &mut Replica<T>,
     records: &[Record],
-) -> Result<(), Option<Refusal>> {
+) -> Result<(), Option<Refusal>>
+    ensures { OnOk result (replica.new.records ≡ replica.old.records ++ records.now) }
+{
     for record in records {
         match replica.take(alloc, record) {
             Ok(Took::New(_)) => {}
@@ -542,18 +547,34 @@ fn keep_left<X: Files<File = File> + Eprint, T: Timeline>(
 }
 
 /// Writes the replica's log to this journal, and brings it to the disk.
-fn write_log<T: Timeline>(
-    fresh: &mut Keeper<JournalFile>,
+fn write_log<D: Disk, T: Timeline>(
+    fresh: &mut Keeper<D>,
     replica: &Replica<T>,
     second: u64,
-) -> Result<(), Failed> {
-    for place in 0..replica.len() {
-        let Some(record) = replica.entry(place.saturating_add(1)) else {
-            break;
-        };
-        take_in_batches(fresh, &record, second)?;
-    }
+) -> Result<(), Failed>
+    ensures { OnOk result ((first : List ℕ) (records : List Record) → KeepsAll D.written first fresh.old records →
+        IsSynced D.synced first fresh.new (records ++ replica.now.records)) }
+{
+    take_log(fresh, replica, second)?;
     fresh.sync(second)?;
+    Ok(())
+}
+
+/// Has this journal take the replica's log.
+fn take_log<D: Disk, T: Timeline>(
+    fresh: &mut Keeper<D>,
+    replica: &Replica<T>,
+    second: u64,
+) -> Result<(), Failed>
+    ensures { OnOk result ((first : List ℕ) (records : List Record) → KeepsAll D.written first fresh.old records →
+        KeepsAll D.written first fresh.new (records ++ replica.now.records)) }
+{
+    for place in 0..replica.len() {
+        let Some(said) = replica.entry(place + 1) else {
+            return Err(Failed);
+        };
+        take_in_batches(fresh, &said, second)?;
+    }
     Ok(())
 }
 

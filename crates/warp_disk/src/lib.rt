@@ -13,6 +13,7 @@ mod renewal;
 mod scribe;
 mod syncing;
 mod tallies;
+mod teller;
 mod writing;
 
 pub use bells::Bells;
@@ -24,6 +25,7 @@ pub use journal_file::{
     FirstLines, JournalFile, OpenJournal, SyncWhen, lock_journal, open_journal, words_of,
 };
 pub use operator::tell_slow_write;
+pub use teller::{Teller, Telling};
 pub use writing::{
     NoThread, Shared, Writers, durable_of, end_writing, make_writers, start_writing, started,
 };

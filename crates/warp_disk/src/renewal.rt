@@ -3,6 +3,9 @@
 //! A sync that answers well proves nothing of what failed before it, so nothing of the old file is used again. The
 //! worker hands the log from its beginning. Until the fresh file is on the disk nothing is told of more of the log than
 //! the old one was written for, with `always` synced, and clients' records are refused.
+ghost use Rattle.std.specs.Prelude.{[], ◌∷◌, ◌++◌, ℕ, List, OnOk};
+ghost use Rattle.warp_record.specs.declared.record.Record.{Record};
+ghost use Rattle.warp_journal.specs.Keeping.{KeepsAll};
 
 use crate::fresh_file::FreshFiles;
 use crate::journal_faults::FileFault;
@@ -10,10 +13,9 @@ use crate::journal_file::JournalFile;
 use crate::operator;
 use crate::scribe::{Scribe, second_now};
 use crate::tallies::{Synced, Written, sync};
-use std::io::Eprint;
 use std::sync::Wait;
 use std::time::{Clock, Duration};
-use warp_journal::{Failed, Keeper};
+use warp_journal::{Disk, Failed, Keeper};
 use warp_record::Record;
 
 /// How long it waits before it tries, in milliseconds.
@@ -35,11 +37,11 @@ impl<'a> Scribe<'a> {
     }
 
     /// Tries each second to write the journal anew, until that is done; whether it is, before this thread is to end.
-    pub(crate) fn renew<X: Wait + Clock + Eprint + FreshFiles>(&mut self, rt: &X) -> bool {
+    pub(crate) fn renew<X: Wait + Clock + FreshFiles>(&mut self, rt: &X) -> bool {
         self.durable.note_failing(true);
         self.bells.wake_worker();
         let mut told = self.reason();
-        operator::tell_journal_fails(rt, told);
+        operator::tell_journal_fails(&self.teller.by(rt), told);
         // The fresh file stays while this goes on: a host that begins beside it trusts the old one no more.
         let _ = rt.begin_fresh(self.alloc, &self.place, self.keeper.disk());
         let least = self.keeper.len();
@@ -55,16 +57,16 @@ impl<'a> Scribe<'a> {
         }
         self.durable.note_failing(false);
         self.bells.wake_worker();
-        operator::tell_journal_renewed(rt, self.keeper.len());
+        operator::tell_journal_renewed(&self.teller.by(rt), self.keeper.len());
         true
     }
 
     /// Tells why the journal was not written anew, where that is not what was told last.
-    fn tell_change<X: Eprint>(&self, rt: &X, told: &mut FileFault, fault: FileFault) {
+    fn tell_change<X: Wait>(&self, rt: &X, told: &mut FileFault, fault: FileFault) {
         if fault.is_as(*told) || self.durable.is_over() {
             return;
         }
-        operator::tell_journal_not_renewed(rt, fault);
+        operator::tell_journal_not_renewed(&self.teller.by(rt), fault);
         *told = fault;
     }
 
@@ -148,12 +150,15 @@ impl<'a> Scribe<'a> {
 }
 
 /// Takes a record, and writes those that wait where they are many.
-pub(crate) fn take_in_batches(
-    fresh: &mut Keeper<JournalFile>,
-    record: &Record,
+pub(crate) fn take_in_batches<D: Disk>(
+    fresh: &mut Keeper<D>,
+    entry: &Record,
     second: u64,
-) -> Result<(), Failed> {
-    fresh.take(record, second)?;
+) -> Result<(), Failed>
+    ensures { OnOk result ((first : List ℕ) (records : List Record) → KeepsAll D.written first fresh.old records →
+        KeepsAll D.written first fresh.new (records ++ entry.now ∷ [])) }
+{
+    fresh.take(entry, second)?;
     if fresh.len() % BATCH == 0 {
         fresh.write()?;
     }

@@ -6,16 +6,16 @@
 use crate::bells::Bells;
 use crate::durable::Durable;
 use crate::fresh_file::{FreshFiles, JournalPlace};
-use crate::handing::{Handed, RING_ROOM};
+use crate::handing::{Handed, RING_ROOM, next_since, take_handed};
 use crate::journal_faults::FileFault;
 use crate::journal_file::{JournalFile, SyncWhen};
 use crate::operator;
 use crate::syncing::{SyncDone, Syncs};
 use crate::tallies::{Written, end_batch, write};
+use crate::teller::Teller;
 use rtrb::Consumer;
 use std::alloc::Global;
 use std::fs::File;
-use std::io::Eprint;
 use std::sync::Wait;
 use std::time::{Clock, Duration};
 use warp_journal::{Failed, Keeper};
@@ -38,6 +38,7 @@ pub(crate) struct Scribe<'a> {
     pub(crate) syncs: Syncs,
     pub(crate) durable: &'a Durable,
     pub(crate) bells: &'a Bells,
+    pub(crate) teller: &'a Teller,
     /// Since when records are written that no sync was asked for, if some are.
     pub(crate) behind_since: Option<Duration>,
     /// When the file was looked at.
@@ -61,26 +62,12 @@ pub(crate) fn second_now<X: Clock>(rt: &X) -> u64 {
 impl<'a> Scribe<'a> {
     /// The next record that was handed, since the log was asked for from its beginning last.
     pub(crate) fn next_handed(&mut self) -> Option<Record> {
-        for _ in 0..RING_ROOM {
-            let handed = self.handed.pop().ok()?;
-            if handed.beginning == self.beginnings {
-                return Some(handed.record);
-            }
-        }
-        None
+        next_since(&mut self.handed, self.beginnings)
     }
 
     /// Takes what was handed; how many records that was.
     fn take_all(&mut self, second: u64) -> Result<usize, Failed> {
-        let mut count = 0usize;
-        for _ in 0..RING_ROOM {
-            let Some(record) = self.next_handed() else {
-                break;
-            };
-            self.keeper.take(&record, second)?;
-            count = count.saturating_add(1);
-        }
-        Ok(count)
+        take_handed(&mut self.keeper, &mut self.handed, self.beginnings, second)
     }
 
     /// So many records are in the file: they may be told where that needs no sync.
@@ -159,10 +146,10 @@ impl<'a> Scribe<'a> {
     }
 
     /// Looks at the file each second, and tells once that a sync takes long.
-    fn look_after<X: FreshFiles + Eprint>(&mut self, rt: &X, now: Duration) -> Result<(), Failed> {
+    fn look_after<X: FreshFiles + Wait>(&mut self, rt: &X, now: Duration) -> Result<(), Failed> {
         if self.syncs.is_slowness_new(now) {
             let waiting = self.durable.written().saturating_sub(self.durable.synced());
-            operator::tell_slow_sync(rt, waiting);
+            operator::tell_slow_sync(&self.teller.by(rt), waiting);
         }
         let waits = self.syncs.waits_since();
         self.durable.note_waiting(waits.or(self.behind_since));
@@ -173,7 +160,7 @@ impl<'a> Scribe<'a> {
     }
 
     /// Writes what was handed, and has it brought to the disk where that is due; whether there was anything.
-    fn work<X: Clock + FreshFiles + Eprint>(&mut self, rt: &X) -> Result<bool, Failed> {
+    fn work<X: Wait + Clock + FreshFiles>(&mut self, rt: &X) -> Result<bool, Failed> {
         let now = rt.monotonic().unwrap_or(Duration::MAX);
         let second = second_now(rt);
         let synced = self.take_synced(rt, now)?;
@@ -224,7 +211,7 @@ impl<'a> Scribe<'a> {
     }
 
     /// Writes until it is to end and all is on the disk, or the disk fails.
-    fn write_on<X: Wait + Clock + FreshFiles + Eprint>(&mut self, rt: &X) -> Result<(), Failed> {
+    fn write_on<X: Wait + Clock + FreshFiles>(&mut self, rt: &X) -> Result<(), Failed> {
         for _ in rt.forever() {
             // What was handed before it was set is found by the work behind this look.
             let last = self.durable.is_over();
@@ -240,7 +227,7 @@ impl<'a> Scribe<'a> {
     }
 
     /// Writes until it is to end. Where the disk fails that is said, and the journal is written anew.
-    pub(crate) fn run<X: Wait + Clock + Eprint + FreshFiles>(mut self, rt: &X) {
+    pub(crate) fn run<X: Wait + Clock + FreshFiles>(mut self, rt: &X) {
         for _ in rt.forever() {
             if self.write_on(rt).is_ok() {
                 self.durable.end_syncer();

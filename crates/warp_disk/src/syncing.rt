@@ -1,4 +1,5 @@
 //! The thread that brings the journal to the disk, so that writing never waits for that, and the way to it.
+ghost use Rattle.std.specs.Prelude.{◌≡◌, IfSome};
 
 use crate::durable::Durable;
 use crate::journal_file::JournalFile;
@@ -153,7 +154,9 @@ impl Syncs {
     }
 
     /// What came of the sync under way, which was asked since the journal was begun so many times, if it has ended.
-    pub(crate) fn answer(&mut self, beginning: u32, now: Duration) -> Option<SyncDone> {
+    pub(crate) fn answer(&mut self, beginning: u32, now: Duration) -> Option<SyncDone>
+        ensures { IfSome result (λ done. done.beginning ≡ beginning) }
+    {
         for _ in 0..SYNCS_ROOM {
             let done = self.done.pop().ok()?;
             if done.beginning == beginning {

@@ -1,4 +1,7 @@
 //! The journal's thread and the one that syncs: what they are made of, their start and their end.
+ghost use Rattle.std.specs.Prelude.{◌≡◌, IfOk, IsOk, Ok};
+ghost use Rattle.warp_disk.specs.Handing.{count_of};
+ghost use Rattle.warp_disk.specs.Telling.{kept_in, tells_of, told_beside};
 
 use crate::bells::Bells;
 use crate::durable::{Durable, Tells};
@@ -7,9 +10,9 @@ use crate::handing::{Handing, RING_ROOM};
 use crate::journal_file::OpenJournal;
 use crate::scribe::Scribe;
 use crate::syncing::{SYNCS_ROOM, Syncer, Syncs};
+use crate::teller::Teller;
 use rtrb::RingBuffer;
 use std::alloc::{AllocError, Global};
-use std::io::Eprint;
 use std::sync::Wait;
 use std::thread::{JoinHandle, Scope, Threads};
 use std::time::{Clock, Duration};
@@ -26,6 +29,8 @@ pub struct Shared<'a> {
     pub bells: &'a Bells,
     /// What of the log is written.
     pub durable: &'a Durable,
+    /// What tells an operator.
+    pub teller: &'a Teller,
 }
 
 /// The threads of a journal.
@@ -36,7 +41,9 @@ pub struct Writers<'a> {
 }
 
 /// How much of this journal is on the disk, whose records the replica has taken.
-pub fn durable_of(journal: &Option<OpenJournal>) -> Durable {
+pub fn durable_of(journal: &Option<OpenJournal>) -> Durable
+    ensures { tells_of result ≡ told_beside journal.now }
+{
     match journal {
         Some(journal) => Durable::new(journal.when.tells(), journal.keeper.len()),
         None => Durable::new(Tells::All, 0),
@@ -48,8 +55,14 @@ pub fn make_writers<'a>(
     alloc: Global,
     journal: Option<OpenJournal>,
     shared: Shared<'a>,
-) -> Result<(Handing, Option<Writers<'a>>), AllocError> {
-    let Shared { bells, durable } = shared;
+) -> Result<(Handing, Option<Writers<'a>>), AllocError>
+    ensures { IfOk result (λ made. count_of made.0 ≡ kept_in journal) }
+{
+    let Shared {
+        bells,
+        durable,
+        teller,
+    } = shared;
     let Some(journal) = journal else {
         return Ok((Handing::new(alloc, None, 0), None));
     };
@@ -79,6 +92,7 @@ pub fn make_writers<'a>(
         syncs: Syncs::new(asking, done),
         durable,
         bells,
+        teller,
         behind_since: None,
         looked: Duration::ZERO,
         fault: None,
@@ -89,7 +103,10 @@ pub fn make_writers<'a>(
 }
 
 /// The handle of a thread, if it could be started.
-pub fn started<H, E: Drop>(running: Result<H, E>) -> Result<H, NoThread> {
+pub fn started<H, E: Drop>(running: Result<H, E>) -> Result<H, NoThread>
+    ensures started { (handle : H) → running ≡ Ok handle → result ≡ Ok handle }
+    ensures refused { IsOk result → IsOk running }
+{
     match running {
         Ok(handle) => Ok(handle),
         Err(_) => Err(NoThread),
@@ -97,7 +114,7 @@ pub fn started<H, E: Drop>(running: Result<H, E>) -> Result<H, NoThread> {
 }
 
 /// Starts the journal's thread and the one that syncs, if there is a journal.
-pub fn start_writing<'s, E, X: Eprint + FreshFiles + Wait + Clock + Sync + 's>(
+pub fn start_writing<'s, E, X: FreshFiles + Wait + Clock + Sync + 's>(
     scope: &'s Scope<'s, E>,
     rt: &'s X,
     writers: Option<Writers<'s>>,

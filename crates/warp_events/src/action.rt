@@ -6,7 +6,7 @@ use warp_watch::ClientId;
 /// Why a host ends.
 #[derive(Clone, Copy, Debug, PartialEq, Eq)]
 pub enum Ending {
-    /// Its standard input has ended, and all clients are gone or took too long.
+    /// Its standard input has ended, or its operator stopped it, and all clients are gone or took too long.
     Input,
     /// Its journal can't be written until the end.
     Journal,

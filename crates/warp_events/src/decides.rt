@@ -1,6 +1,7 @@
 //! The calls of a machine that decides all of a host.
 
 use crate::action::Action;
+use crate::operating::{Operated, OperatorAnswer, Undone};
 use crate::seen::JournalSeen;
 use warp_record::Record;
 use warp_service::{Named, Note};
@@ -68,6 +69,12 @@ pub trait Decides<P> {
     /// Standard input has ended: no more connections are let in, what clients said is answered, and the host ends once they
     /// are gone, within ten seconds.
     fn input_ended(&mut self, now: u64);
+
+    /// A line of the operator has come, without its line feed.
+    fn operator(&mut self, line: &[u8], now: u64) -> Operated;
+
+    /// The file of tokens was read (`Operated::ReadTokens`), and has this text, or it could not be. What answers the operator.
+    fn tokens_read(&mut self, text: Result<&[u8], Undone>, now: u64) -> OperatorAnswer;
 
     /// How many records the log has.
     fn log_len(&self) -> u32;

@@ -4,10 +4,12 @@
 
 mod action;
 mod decides;
+mod operating;
 mod seen;
 
 pub use action::{Action, Ending};
 pub use decides::Decides;
+pub use operating::{BadTokens, Operated, OperatorAnswer, Status, TokenWhy, Undone};
 pub use seen::JournalSeen;
 pub use warp_service::{Named, Note, NoteText, PeerAction};
 pub use warp_watch::ClientId;

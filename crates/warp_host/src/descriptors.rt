@@ -1,6 +1,6 @@
 //! How many descriptors there may be.
 
-ghost use Rattle.std.specs.Prelude.{◌≤◌};
+ghost use Rattle.std.specs.Prelude.{◌≤◌, min};
 
 use libc::types::rlimit;
 
@@ -10,7 +10,8 @@ const KEPT: u64 = 16;
 
 /// So many clients there may be of `wanted`, beside so many peers, by the limit on descriptors; one at least.
 pub fn clients_within(wanted: u32, peers: usize) -> u32
-    ensures { result ≤ wanted }
+    ensures most { result ≤ wanted }
+    ensures least { min 1 wanted ≤ result }
 {
     let mut limit = rlimit {
         rlim_cur: u64::MAX,

@@ -1,19 +1,19 @@
 //! A host from its start to its end: the worker in this thread, and those beside it.
 
+use crate::channel::Channel;
 use crate::entrance::Entrance;
-use crate::input_end::InputEnd;
-use crate::links::Links;
 use crate::lookup::{Lookup, Seeking, make_lookup, spelled_address};
 use crate::operator;
-use crate::options::Outside;
-use crate::seats::Seats;
+use crate::options::{ChannelUse, Outside};
+use crate::sockets::Sockets;
+use crate::token_file::TokenFiles;
 use crate::worker::{LISTENER, Offers, WAKER, Worker, micros_of};
 use mio::net::TcpListener;
 use mio::{Events, Interest, Poll, Waker};
 use std::alloc::{AllocError, Global};
 use std::hash::RandomState;
 use std::io::{self, Eprint};
-use std::net::{self, Net};
+use std::net::{self, Net, SocketAddr};
 use std::random::RandomSource;
 use std::sync::Wait;
 use std::thread;
@@ -21,8 +21,8 @@ use std::thread::{Scope, Threads};
 use std::time::Clock;
 use thiserror::Error;
 use warp_disk::{
-    Bells, FreshFiles, Handing, NoThread, OpenJournal, Shared, Writers, durable_of, end_writing,
-    make_writers, start_writing, started,
+    Bells, FreshFiles, Handing, NoThread, OpenJournal, Shared, Teller, Writers, durable_of,
+    end_writing, make_writers, start_writing, started,
 };
 use warp_events::Decides;
 
@@ -53,11 +53,11 @@ impl From<AllocError> for HostFault {
 }
 
 /// What a host needs of the system.
-pub trait System: Eprint + FreshFiles + Threads + Wait + Clock + Sync {}
+pub trait System: Eprint + TokenFiles + FreshFiles + Threads + Wait + Clock + Sync {}
 
 impl<X> System for X
 where
-    X: Eprint + FreshFiles + Threads + Wait + Clock + Sync,
+    X: Eprint + TokenFiles + FreshFiles + Threads + Wait + Clock + Sync,
 {}
 
 /// What runs beside the worker: the threads of the journal, and the one that looks names up, where they are wanted.
@@ -120,17 +120,17 @@ fn run_beside<'s, E, X, P, M: Decides<P>>(
 ) -> Result<(), HostFault>
 where
     X: Net<Listener = net::TcpListener, Stream = net::TcpStream> + 's,
-    X: Eprint + FreshFiles + Threads + Wait + Clock + Sync,
+    X: TokenFiles + FreshFiles + Threads + Wait + Clock + Sync,
 {
     let Beside { writers, lookup } = beside;
     let Ok(writing) = start_writing(scope, rt, writers) else {
-        operator::tell_no_thread(rt, "the journal");
+        operator::tell_no_thread(&shared.teller.by(rt), "the journal");
         return Err(HostFault::System);
     };
     let served = match start_lookup(scope, rt, lookup) {
         Ok(()) => serve(rt, machine, shared, worker),
         Err(NoThread) => {
-            operator::tell_no_thread(rt, "the names of peers");
+            operator::tell_no_thread(&shared.teller.by(rt), "the names of peers");
             Err(HostFault::System)
         }
     };
@@ -175,6 +175,15 @@ fn make_entrance<X: Eprint>(
     Ok(Entrance::new(poll, listener))
 }
 
+/// Of so many peers it is not known where they are.
+fn no_addresses(alloc: Global, peers: u16) -> Result<Vec<Option<SocketAddr>>, AllocError> {
+    let mut addresses = Vec::new(alloc);
+    for _ in 0..peers {
+        addresses.push(None)?;
+    }
+    Ok(addresses)
+}
+
 /// The worker with its sockets.
 fn make_worker<X: Eprint + Clock>(
     rt: &X,
@@ -182,22 +191,22 @@ fn make_worker<X: Eprint + Clock>(
     poll: Poll,
     ends: Ends,
     listener: TcpListener,
-    until_input_ends: bool,
+    uses: ChannelUse,
     peers: u16,
 ) -> Result<Worker, HostFault> {
     let now = micros_of(or_told(rt, "time", rt.monotonic())?);
     let buffer = vec![in alloc; 0u8; READ]?;
-    let links = Links::new(alloc, peers)?;
+    let addresses = no_addresses(alloc, peers)?;
     let entrance = make_entrance(rt, &poll, listener)?;
-    let input = InputEnd::new(&poll, until_input_ends);
+    let channel = Channel::new(alloc, &poll, uses);
     let Ends { handing, seeking } = ends;
     Ok(Worker {
         alloc,
         poll,
         entrance: Some(entrance),
-        input,
-        seats: Seats::new(alloc),
-        links,
+        channel,
+        sockets: Sockets::new(alloc, peers),
+        addresses,
         handing,
         seeking,
         buffer,
@@ -242,9 +251,11 @@ pub fn host<
 >(rt: &X, alloc: Global, machine: &mut M, outside: Outside) -> Result<(), HostFault> {
     let (poll, bells) = make_bells(rt)?;
     let durable = durable_of(&outside.journal);
+    let teller = Teller::new(alloc)?;
     let shared = Shared {
         bells: &bells,
         durable: &durable,
+        teller: &teller,
     };
     host_with(rt, alloc, machine, poll, shared, outside)
 }
@@ -265,12 +276,12 @@ fn host_with<
     let Outside {
         listener,
         peers,
-        until_input_ends,
+        channel,
         journal,
     } = outside;
     let (ends, beside) = make_beside(alloc, shared, journal, wants_lookup(machine, peers))?;
-    let mut worker = make_worker(rt, alloc, poll, ends, listener, until_input_ends, peers)?;
-    worker.act(rt, machine);
+    let mut worker = make_worker(rt, alloc, poll, ends, listener, channel, peers)?;
+    worker.act(rt, machine, shared.teller);
     run_all(rt, machine, shared, beside, &mut worker)
 }
 
@@ -282,7 +293,9 @@ fn run_all<X: System + Net<Listener = net::TcpListener, Stream = net::TcpStream>
     beside: Beside<'_>,
     worker: &mut Worker,
 ) -> Result<(), HostFault> {
-    thread::scope(thread::scope_env(), rt, |scope| {
+    let hosted = thread::scope(thread::scope_env(), rt, |scope| {
         run_beside(scope, rt, shared, beside, worker, machine)
-    })
+    });
+    shared.teller.go_on(rt);
+    hosted
 }

@@ -16,6 +16,17 @@ pub const MOST_CLIENTS: u32 = 15_000;
 /// The most peers.
 pub const MOST_PEERS: usize = 64;
 
+/// What standard input and output of a host are for.
+#[derive(Drop)]
+pub struct ChannelUse {
+    /// Whether the host ends with its standard input.
+    pub until_input_ends: bool,
+    /// Whether standard input has lines of its operator, which are answered on standard output.
+    pub operator: bool,
+    /// The path of the file of tokens of clients, which an operator may have read again, if there is one.
+    pub tokens: Option<String>,
+}
+
 /// What a host has of the system, and what is asked of it there.
 #[derive(Drop)]
 pub struct Outside {
@@ -23,8 +34,8 @@ pub struct Outside {
     pub listener: TcpListener,
     /// How many peers its machine has, at most 64.
     pub peers: u16,
-    /// Whether the host ends with its standard input.
-    pub until_input_ends: bool,
+    /// What its standard input and output are for.
+    pub channel: ChannelUse,
     /// The journal, whose records the machine's log has.
     pub journal: Option<OpenJournal>,
 }

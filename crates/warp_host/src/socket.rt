@@ -2,10 +2,25 @@
 
 ghost use Rattle.std.specs.Prelude.{◌≤◌, IfOk, length};
 
+use libc::net;
 use mio::event::Event;
 use mio::net::TcpStream;
 use std::io::{ErrorKind, Read, Write};
 use std::net::Shutdown;
+use std::os::fd::AsRawFd;
+
+/// The value of an option that is on, as many bytes as count of it.
+const ON: [u8; 16] = [1, 0, 0, 0, 0, 0, 0, 0, 0, 0, 0, 0, 0, 0, 0, 0];
+
+const ON_LEN: u32 = 4;
+
+/// Has the system send what is written at once, and ask a silent other end for a sign of it. Where it doesn't, the
+/// connection goes on without.
+fn prepare(stream: &TcpStream) {
+    let _ = stream.set_nodelay(true);
+    let descriptor = stream.as_raw_fd();
+    let _ = unsafe { net::setsockopt(descriptor, net::SOL_SOCKET, net::SO_KEEPALIVE, &ON, ON_LEN) };
+}
 
 /// A connection that is gone.
 #[derive(Clone, Copy, Debug, PartialEq, Eq)]
@@ -28,6 +43,7 @@ pub(crate) struct Socket {
 impl Socket {
     /// A new connection. There may be something at once.
     pub(crate) fn new(stream: TcpStream) -> Socket {
+        prepare(&stream);
         Socket {
             stream,
             may_read: true,

@@ -1,24 +1,26 @@
 //! The worker: it waits for sockets and for what other threads say, tells the machine what came, and does what that wants.
 //!
 //! It decides nothing: each of its branches is on a result of the system, or on what the machine says.
+ghost use Rattle.std.specs.Prelude.{◌≡◌, ◌≤◌, ◌/◌, min};
+ghost use Rattle.std.specs.Duration.{as_nanos};
 
+use crate::channel::Channel;
 use crate::entrance::{Arrival, Entrance};
 use crate::hosting::HostFault;
-use crate::input_end::InputEnd;
-use crate::links::{FIRST_PEER, Links, Standing};
 use crate::lookup::{Seeking, spelled_address};
 use crate::operator;
-use crate::seats::Seats;
+use crate::socket::Gone;
+use crate::sockets::{Sockets, Standing, Whose};
+use crate::token_file::TokenFiles;
 use mio::event::Event;
 use mio::net::TcpStream;
-use mio::{Events, Interest, Poll, Token};
+use mio::{Events, Poll, Token};
 use std::alloc::Global;
-use std::io::Eprint;
-use std::net::Net;
+use std::net::{Net, SocketAddr};
 use std::sync::Wait;
 use std::thread;
 use std::time::{Clock, Duration};
-use warp_disk::{Durable, Handing, MOST_BATCHES, Shared, Wanted, tell_slow_write};
+use warp_disk::{Durable, Handing, MOST_BATCHES, Shared, Teller, Telling, Wanted, tell_slow_write};
 use warp_events::{Action, ClientId, Decides, JournalSeen, Note, NoteText, PeerAction};
 
 pub(crate) const LISTENER: Token = Token(usize::MAX);
@@ -26,6 +28,8 @@ pub(crate) const LISTENER: Token = Token(usize::MAX);
 pub(crate) const WAKER: Token = Token(usize::MAX - 1);
 
 pub(crate) const INPUT: Token = Token(usize::MAX - 2);
+
+pub(crate) const OUTPUT: Token = Token(usize::MAX - 3);
 
 /// So many connections are accepted in a round at most.
 const MOST_ARRIVALS: u32 = 64;
@@ -40,11 +44,11 @@ const SECOND: u64 = 1_000_000;
 const MOMENT: u64 = 1;
 
 /// What the system offers to a worker.
-pub(crate) trait Offers: Eprint + Net + Wait + Clock {}
+pub(crate) trait Offers: TokenFiles + Net + Wait + Clock {}
 
 impl<X> Offers for X
 where
-    X: Eprint + Net + Wait + Clock,
+    X: TokenFiles + Net + Wait + Clock,
 {}
 
 /// The sockets of a host, its standard input, and the worker's ways to other threads.
@@ -53,9 +57,10 @@ pub(crate) struct Worker {
     pub(crate) alloc: Global,
     pub(crate) poll: Poll,
     pub(crate) entrance: Option<Entrance>,
-    pub(crate) input: InputEnd,
-    pub(crate) seats: Seats,
-    pub(crate) links: Links,
+    pub(crate) channel: Channel,
+    pub(crate) sockets: Sockets,
+    /// Where peers are, by their numbers, as far as that is known.
+    pub(crate) addresses: Vec<Option<SocketAddr>>,
     pub(crate) handing: Handing,
     pub(crate) seeking: Seeking,
     /// What is read at once.
@@ -73,7 +78,9 @@ pub(crate) struct Worker {
 }
 
 /// This moment of the clock, in microseconds.
-pub(crate) fn micros_of(moment: Duration) -> u64 {
+pub(crate) fn micros_of(moment: Duration) -> u64
+    ensures { result ≡ min 18446744073709551615 (as_nanos moment / 1000) }
+{
     u64::try_from(moment.as_micros()).unwrap_or(u64::MAX)
 }
 
@@ -110,7 +117,7 @@ impl Worker {
             }
             let timeout = self.timeout(machine.due());
             if let Err(error) = self.poll.poll(events, Some(timeout)) {
-                operator::tell_not_given(rt, "events", &error);
+                operator::tell_not_given(&shared.teller.by(rt), "events", &error);
                 return Err(HostFault::System);
             }
             shared.bells.worker_wakes();
@@ -123,12 +130,14 @@ impl Worker {
     }
 
     /// How long it may wait for events, where the machine has something to do at this moment.
-    fn timeout(&self, due: u64) -> Duration {
+    fn timeout(&self, due: u64) -> Duration
+        ensures { as_nanos result ≤ 1000000000 }
+    {
         let accepts = match &self.entrance {
             Some(entrance) => entrance.may_accept,
             None => false,
         };
-        if accepts || self.has_more || self.seats.queued() > 0 || self.links.are_due() {
+        if accepts || self.has_more || self.sockets.queued() > 0 {
             return Duration::from_millis(0);
         }
         Duration::from_micros(due.saturating_sub(self.now).min(SECOND))
@@ -151,10 +160,8 @@ impl Worker {
             }
             WAKER => {}
             INPUT => self.may_read_input = true,
-            Token(key) if key >= FIRST_PEER => self.links.note(key - FIRST_PEER, event),
-            Token(key) => self
-                .seats
-                .note(u32::try_from(key).unwrap_or(u32::MAX), event),
+            OUTPUT => self.channel.note_output(),
+            Token(at) => self.sockets.note(at, event),
         }
     }
 
@@ -162,16 +169,21 @@ impl Worker {
     fn round<X: Offers, P, M: Decides<P>>(&mut self, rt: &X, machine: &mut M, shared: Shared<'_>) {
         self.accept_some(machine);
         self.serve_some(machine);
-        self.look_at_links(machine);
-        self.look_at_input(machine);
+        self.look_at_input(rt, machine, shared);
         // What other threads make from now on wakes the worker.
         shared.bells.worker_sleeps();
         self.look_at_journal(machine, shared.durable);
         self.take_found(machine);
-        self.has_more = machine.turn(self.now);
-        self.tick(rt, machine, shared.durable);
-        self.act(rt, machine);
+        self.work(rt, machine);
+        self.tick(rt, machine, shared);
+        self.act(rt, machine, shared.teller);
         hand(&mut self.handing, machine, shared.durable);
+    }
+
+    /// Has the machine work. What it made of what came is told at the time behind that, which is how long a line took.
+    fn work<X: Clock, P, M: Decides<P>>(&mut self, rt: &X, machine: &mut M) {
+        self.has_more = machine.turn(self.now);
+        self.read_clock(rt);
     }
 
     /// Lets in who comes.
@@ -204,38 +216,29 @@ impl Worker {
     }
 
     /// A client has come by this connection; whether there was room for it.
-    fn seat(&mut self, who: ClientId, mut stream: TcpStream) -> bool {
-        if self.seats.reserve(who.key).is_err() {
+    fn seat(&mut self, who: ClientId, stream: TcpStream) -> bool {
+        let whose = Whose::Client(who);
+        if self.sockets.put(&self.poll, whose, stream).is_err() {
             return false;
         }
-        let _ = stream.set_nodelay(true);
-        let both = Interest::READABLE | Interest::WRITABLE;
-        let token = Token(who.key as usize);
-        if self
-            .poll
-            .registry()
-            .register(&mut stream, token, both)
-            .is_err()
-        {
-            return false;
-        }
-        self.seats.put(who, stream);
-        self.seats.enqueue(who);
+        self.sockets.enqueue(whose);
         true
     }
 
-    /// Reads and writes what can be, of each client once.
+    /// Reads and writes what can be, of each socket once.
     fn serve_some<P, M: Decides<P>>(&mut self, machine: &mut M) {
-        for _ in 0..self.seats.queued() {
-            if let Some(who) = self.seats.next() {
-                self.serve(machine, who);
+        for _ in 0..self.sockets.queued() {
+            match self.sockets.next() {
+                Some(Whose::Client(who)) => self.serve(machine, who),
+                Some(Whose::Peer(peer, number)) => self.look_at_link(machine, peer, number),
+                None => {}
             }
         }
     }
 
     /// Goes on with writing to a client, where the system took no more, and reads of it.
     fn serve<P, M: Decides<P>>(&mut self, machine: &mut M, who: ClientId) {
-        if self.seats.is_writing(who) {
+        if self.sockets.is_writing(Whose::Client(who)) {
             self.write(machine, who);
         }
         self.read(machine, who);
@@ -243,33 +246,35 @@ impl Worker {
 
     /// Reads once of a client, where the machine wants that.
     fn read<P, M: Decides<P>>(&mut self, machine: &mut M, who: ClientId) {
-        if !self.seats.may_read(who) || !machine.wants(who) {
+        let whose = Whose::Client(who);
+        if !self.sockets.may_read(whose) || !machine.wants(who) {
             return;
         }
-        let Ok(count) = self.seats.read(who, &mut self.buffer) else {
+        let Ok(count) = self.sockets.read(whose, &mut self.buffer) else {
             self.lose(machine, who);
             return;
         };
-        if self.seats.is_at_end(who) {
+        if self.sockets.is_at_end(whose) {
             machine.ended(who, self.now);
             return;
         }
         if count > 0 {
             machine.bytes(who, self.buffer.get(..count).unwrap_or(b""), self.now);
         }
-        self.seats.enqueue(who);
+        self.sockets.enqueue(whose);
     }
 
     /// A client's connection has failed.
     fn lose<P, M: Decides<P>>(&mut self, machine: &mut M, who: ClientId) {
-        self.seats.close(who);
+        self.sockets.close(Whose::Client(who));
         machine.gone(who, self.now);
     }
 
     /// Writes to a client what the system takes, in so many writes.
     fn write<P, M: Decides<P>>(&mut self, machine: &mut M, who: ClientId) {
+        let whose = Whose::Client(who);
         for _ in 0..MOST_WRITES {
-            let Ok(count) = self.seats.write(who, machine.output(who)) else {
+            let Ok(count) = self.sockets.write(whose, machine.output(who)) else {
                 self.lose(machine, who);
                 return;
             };
@@ -278,28 +283,19 @@ impl Worker {
             }
             machine.sent(who, count, self.now);
         }
-        self.seats.enqueue_writing(who);
+        self.sockets.enqueue_writing(whose);
     }
 
-    /// Goes on with the connections to peers.
-    fn look_at_links<P, M: Decides<P>>(&mut self, machine: &mut M) {
-        for peer in 0..self.links.len() {
-            if self.links.take_due(peer) {
-                self.look_at_link(machine, peer);
-            }
-        }
-    }
-
-    /// Goes on with the connection to this peer, if there is one that is made.
-    fn look_at_link<P, M: Decides<P>>(&mut self, machine: &mut M, peer: u16) {
-        match self.links.look(peer) {
+    /// Goes on with the connection of this number to a peer, if it is made.
+    fn look_at_link<P, M: Decides<P>>(&mut self, machine: &mut M, peer: u16, number: u64) {
+        match self.sockets.look(Whose::Peer(peer, number)) {
             Standing::Away => {}
-            Standing::Made(number) => {
+            Standing::Made => {
                 machine.connected(peer, number, self.now);
                 self.talk(machine, peer, number);
             }
-            Standing::Here(number) => self.talk(machine, peer, number),
-            Standing::Failed(number) => self.lose_link(machine, peer, number),
+            Standing::Here => self.talk(machine, peer, number),
+            Standing::Failed => self.lose_link(machine, peer, number),
         }
     }
 
@@ -311,15 +307,16 @@ impl Worker {
 
     /// The connection of this number to a peer has ended.
     fn lose_link<P, M: Decides<P>>(&mut self, machine: &mut M, peer: u16, number: u64) {
-        self.links.close(peer, number);
+        self.sockets.close(Whose::Peer(peer, number));
         machine.peer_ended(peer, number, self.now);
     }
 
     /// Sends to a peer what the system takes.
     fn send<P, M: Decides<P>>(&mut self, machine: &mut M, peer: u16, number: u64) {
+        let whose = Whose::Peer(peer, number);
         for _ in 0..MOST_WRITES {
             let bytes = machine.peer_output(peer, number);
-            let Ok(count) = self.links.write(peer, number, bytes) else {
+            let Ok(count) = self.sockets.write(whose, bytes) else {
                 self.lose_link(machine, peer, number);
                 return;
             };
@@ -328,22 +325,27 @@ impl Worker {
             }
             machine.peer_sent(peer, number, count, self.now);
         }
-        self.links.enqueue(peer);
+        self.sockets.enqueue(whose);
     }
 
     /// Reads once of a peer, where the machine wants that.
     fn hear<P, M: Decides<P>>(&mut self, machine: &mut M, peer: u16, number: u64) {
-        if !self.links.may_read(peer, number) || !machine.peer_wants(peer, number) {
+        let whose = Whose::Peer(peer, number);
+        if !self.sockets.may_read(whose) || !machine.peer_wants(peer, number) {
             return;
         }
-        let Ok(count) = self.links.read(peer, number, &mut self.buffer) else {
+        let Ok(count) = self.sockets.read(whose, &mut self.buffer) else {
             self.lose_link(machine, peer, number);
             return;
         };
+        if self.sockets.is_at_end(whose) {
+            self.lose_link(machine, peer, number);
+            return;
+        }
         let bytes = self.buffer.get(..count).unwrap_or(b"");
         machine.peer_bytes(peer, number, bytes, self.now);
-        if self.links.may_read(peer, number) {
-            self.links.enqueue(peer);
+        if self.sockets.may_read(whose) {
+            self.sockets.enqueue(whose);
         }
     }
 
@@ -357,34 +359,45 @@ impl Worker {
 
     /// Takes the addresses that were found.
     fn take_found<P, M: Decides<P>>(&mut self, machine: &mut M) {
-        for _ in 0..self.links.len() {
+        for _ in 0..self.addresses.len() {
             let Some(found) = self.seeking.found() else {
                 return;
             };
-            self.links.note_address(found.peer, found.address);
+            self.note_address(found.peer, found.address);
             machine.found(found.peer, found.address.is_some(), self.now);
         }
     }
 
     /// Has the machine do what is due, and looks at what no event tells of.
-    fn tick<X: Eprint, P, M: Decides<P>>(&mut self, rt: &X, machine: &mut M, durable: &Durable) {
+    fn tick<X: TokenFiles + Wait, P, M: Decides<P>>(
+        &mut self,
+        rt: &X,
+        machine: &mut M,
+        shared: Shared<'_>,
+    ) {
         if machine.due() <= self.now {
-            machine.seen(self.seen(durable));
+            machine.seen(self.seen(shared.durable));
             machine.tick(self.now);
         }
         if self.now.saturating_sub(self.looked) < SECOND {
             return;
         }
         self.looked = self.now;
-        self.look_again(machine);
-        self.tell_slow_write(rt, durable);
+        self.look_again(rt, machine, shared);
+        self.tell_slow_write(rt, shared);
+        shared.teller.go_on(rt);
     }
 
     /// Looks at what no event tells of.
-    fn look_again<P, M: Decides<P>>(&mut self, machine: &mut M) {
-        if self.input.is_always_ready() {
+    fn look_again<X: TokenFiles + Wait, P, M: Decides<P>>(
+        &mut self,
+        rt: &X,
+        machine: &mut M,
+        shared: Shared<'_>,
+    ) {
+        if self.channel.is_always_ready() {
             self.may_read_input = true;
-            self.look_at_input(machine);
+            self.look_at_input(rt, machine, shared);
         }
         if let Some(entrance) = &mut self.entrance {
             entrance.try_again();
@@ -392,17 +405,22 @@ impl Worker {
     }
 
     /// Tells once that a write of the journal takes long, until none does.
-    fn tell_slow_write<X: Eprint>(&mut self, rt: &X, durable: &Durable) {
+    fn tell_slow_write<X: Wait>(&mut self, rt: &X, shared: Shared<'_>) {
+        let Shared {
+            durable,
+            teller,
+            ..
+        } = shared;
         let is_slow = durable.is_write_slow(Duration::from_micros(self.now));
         if is_slow && !self.is_slow_write_told {
             let (unwritten, _) = durable.waiting();
-            tell_slow_write(rt, unwritten);
+            tell_slow_write(&teller.by(rt), unwritten);
         }
         self.is_slow_write_told = is_slow;
     }
 
     /// What the system knows that is measured.
-    fn seen(&self, durable: &Durable) -> JournalSeen {
+    pub(crate) fn seen(&self, durable: &Durable) -> JournalSeen {
         let (_, unsynced) = durable.waiting();
         JournalSeen {
             records: durable.synced(),
@@ -415,43 +433,41 @@ impl Worker {
         }
     }
 
-    /// Reads standard input, if there may be something. Its end is told, behind what came before it.
-    fn look_at_input<P, M: Decides<P>>(&mut self, machine: &mut M) {
-        if self.may_read_input && self.input.look(&self.poll) {
-            machine.input_ended(self.now);
-        }
-        self.may_read_input = false;
-    }
-
     /// Does what the machine wants.
-    pub(crate) fn act<X: Eprint + Net, P, M: Decides<P>>(&mut self, rt: &X, machine: &mut M) {
+    pub(crate) fn act<X: Net + Wait, P, M: Decides<P>>(
+        &mut self,
+        rt: &X,
+        machine: &mut M,
+        teller: &Teller,
+    ) {
         for _ in 0..u64::MAX {
             let Some(action) = machine.next() else {
                 return;
             };
-            self.act_one(rt, machine, action);
+            self.act_one(rt, machine, teller, action);
         }
     }
 
     /// Does this.
-    fn act_one<X: Eprint + Net, P, M: Decides<P>>(
+    fn act_one<X: Net + Wait, P, M: Decides<P>>(
         &mut self,
         rt: &X,
         machine: &mut M,
+        teller: &Teller,
         action: Action,
     ) {
         match action {
             Action::Write(who) => self.write(machine, who),
-            Action::Hear(who) => self.seats.enqueue(who),
+            Action::Hear(who) => self.sockets.enqueue(Whose::Client(who)),
             Action::End(who) => {
-                self.seats.end_writing(who);
-                self.seats.enqueue(who);
+                self.sockets.end_writing(Whose::Client(who));
+                self.sockets.enqueue(Whose::Client(who));
             }
-            Action::Close(who) => self.seats.close(who),
+            Action::Close(who) => self.sockets.close(Whose::Client(who)),
             Action::Peer(peer, wanted) => self.act_for_peer(rt, machine, peer, wanted),
             Action::Listen(true) => {}
             Action::Listen(false) => self.shut(),
-            Action::Tell(note) => tell(rt, machine, note),
+            Action::Tell(note) => tell(&teller.by(rt), machine, note),
             Action::Over(_) => self.is_over = true,
         }
     }
@@ -459,7 +475,28 @@ impl Worker {
     /// Lets nobody in any more, and has no peers.
     fn shut(&mut self) {
         self.entrance = None;
-        self.links.clear();
+        self.addresses.clear();
+        self.sockets.close_peers();
+    }
+
+    /// A peer is at this address, if one was found.
+    fn note_address(&mut self, peer: u16, found: Option<SocketAddr>) {
+        if let Some(address) = self.addresses.get_mut(peer as usize) {
+            *address = found;
+        }
+    }
+
+    /// Begins a connection of this number to a peer, at the address that was found.
+    fn connect<X: Net>(&mut self, rt: &X, peer: u16, number: u64) -> Result<(), Gone> {
+        let Some(Some(address)) = self.addresses.get(peer as usize) else {
+            return Err(Gone);
+        };
+        match TcpStream::connect(rt, *address) {
+            Ok(stream) => self
+                .sockets
+                .put(&self.poll, Whose::Peer(peer, number), stream),
+            Err(_) => Err(Gone),
+        }
     }
 
     /// Does what a peer wants.
@@ -473,13 +510,13 @@ impl Worker {
         match wanted {
             PeerAction::Seek => self.seek(machine, peer),
             PeerAction::Connect(number) => {
-                if self.links.begin(rt, &self.poll, peer, number).is_err() {
+                if self.connect(rt, peer, number).is_err() {
                     machine.peer_ended(peer, number, self.now);
                 }
             }
-            PeerAction::Close(number) => self.links.close(peer, number),
+            PeerAction::Close(number) => self.sockets.close(Whose::Peer(peer, number)),
             PeerAction::Send(number) => self.send(machine, peer, number),
-            PeerAction::Hear(_) => self.links.enqueue(peer),
+            PeerAction::Hear(number) => self.sockets.enqueue(Whose::Peer(peer, number)),
             PeerAction::Tell(_, _) => {}
         }
     }
@@ -487,7 +524,7 @@ impl Worker {
     /// Finds a peer's address: the one that its name spells, or the one that the system has by that name.
     fn seek<P, M: Decides<P>>(&mut self, machine: &mut M, peer: u16) {
         if let Some(address) = spelled_address(machine.peer_name(peer)) {
-            self.links.note_address(peer, Some(address));
+            self.note_address(peer, Some(address));
             machine.found(peer, true, self.now);
             return;
         }
@@ -518,10 +555,10 @@ impl Worker {
 }
 
 /// Tells an operator this.
-fn tell<X: Eprint, P, M: Decides<P>>(rt: &X, machine: &M, note: Note) {
+fn tell<X: Wait, P, M: Decides<P>>(telling: &Telling<'_, X>, machine: &M, note: Note) {
     let text = NoteText {
         note,
         named: machine.named(&note),
     };
-    let _ = eprintln!(rt; "{text}");
+    let _ = eprintln!(telling; "{text}");
 }

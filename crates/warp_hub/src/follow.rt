@@ -3,7 +3,7 @@
 //! A follower has no socket and no clock: bytes of the peer come in; bytes to the peer go out, and lines to be handed
 //! on, each a record that the peer told. Who has the follower has them answered, and brings it the answers. It keeps no
 //! more of the peer's bytes than one unfinished line.
-ghost use Rattle.std.specs.Prelude.{◌≡◌, ◌↔◌, ℕ, List, ◌+◌, ◌-◌, ◌<◌, ◌≤◌, [], ◌∷◌, ◌++◌, false, IfNone, IfSome, IsTrue, OnErr};
+ghost use Rattle.std.specs.Prelude.{◌≡◌, ◌==◌, ◌&&◌, ◌↔◌, ℕ, List, ◌+◌, ◌-◌, ◌<◌, ◌≤◌, [], ◌∷◌, ◌++◌, false, IfNone, IfSome, IsTrue, OnErr};
 ghost use Rattle.std.specs.Prelude.{OnOk, length, min};
 ghost use Rattle.std.specs.List.{before_first};
 ghost use Rattle.warp_tag.specs.Limits.{most_records, widest};
@@ -176,6 +176,23 @@ impl Follower {
         ensures { IsTrue result ↔ (self.now.phase ≡ Phase.Level) }
     {
         self.phase == Phase::Level
+    }
+
+    /// How many records the peer is known to have that were not taken: those that were handed on and not answered, and those
+    /// behind them up to the length of its log that it told last. It may have more: a host tells that length only when it is
+    /// found again.
+    pub fn behind(&self) -> u32
+        ensures { self.now.missing ≤ result }
+    {
+        self.missing
+            .saturating_add((self.len + 1).saturating_sub(self.next))
+    }
+
+    /// Whether just so many records of the peer's log were had, each of which was answered.
+    pub fn has_had(&self, len: u32) -> bool
+        ensures { result ≡ (self.now.missing == 0) && (self.now.next - 1 == len) }
+    {
+        self.missing == 0 && self.next - 1 == len
     }
 
     /// A connection begins: says what is to be said first. What was handed on and not answered is asked for again.
@@ -470,15 +487,25 @@ impl Follower {
     fn on_check(&mut self, line: &[u8], is_host: bool, said: &mut Vec<u8>) -> Option<PeerEvent>
         ensures others { self.new ≡ record self.old { phase = self.new.phase; next = self.new.next; missing = self.new.missing } }
     {
-        let there = match read_reply(self.form, line) {
-            Some(Reply::Log { record, .. }) => Some(record),
-            Some(Reply::Nothing { .. }) => None,
+        let (len, there) = match read_reply(self.form, line) {
+            Some(Reply::Log { log, record }) => (log, Some(record)),
+            Some(Reply::Nothing { log }) => (log, None),
             _ => return Some(self.end_by(line)),
         };
+        self.note_len(len, is_host);
         if there != self.last {
             self.start_over();
         }
         self.begin(is_host, said)
+    }
+
+    /// A host told this length of its log. That of a `serve` is told with each of its records.
+    fn note_len(&mut self, len: u32, is_host: bool)
+        ensures { self.new ≡ self.old }
+    {
+        if is_host {
+            self.len = len.min(self.form.most_records());
+        }
     }
 
     /// Begins to follow: asks for what comes next.

@@ -1,6 +1,6 @@
 //! Rights: whose records a client may send.
 
-ghost use Rattle.std.specs.Prelude.{◌≡◌};
+ghost use Rattle.std.specs.Prelude.{◌≡◌, ◌↔◌, IsTrue};
 ghost use Rattle.warp_record.specs.Record.{origin_of};
 ghost use Rattle.warp_hub.specs.Rights as spec;
 
@@ -23,6 +23,19 @@ pub enum Rights {
 }
 
 impl Rights {
+    /// Whether the same may be sent with these.
+    pub fn is_same(&self, other: &Rights) -> bool
+        ensures { IsTrue result ↔ (self.now ≡ other.now) }
+    {
+        match (self, other) {
+            (Rights::Origins(mine), Rights::Origins(others)) => mine == others,
+            (Rights::Nothing, Rights::Nothing)
+            | (Rights::Read, Rights::Read)
+            | (Rights::All, Rights::All) => true,
+            _ => false,
+        }
+    }
+
     /// Whether it may send anything but a token.
     pub fn is_known(&self) -> bool
         ensures { result ≡ spec.is_known self.now }

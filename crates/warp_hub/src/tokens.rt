@@ -130,6 +130,13 @@ fn is_silent(line: &[u8]) -> bool {
     }
 }
 
+/// The digest by which a token is known.
+pub fn digest_of(token: &[u8]) -> [u8; 32]
+    ensures { result ≡ sha256 token.now }
+{
+    Sha256::digest(token)
+}
+
 impl Tokens {
     /// Reads a file of tokens, for a program of this form: a line `TOKEN *`, `TOKEN read` or `TOKEN ORIGIN[,ORIGIN]..`
     /// each. Empty lines and those that begin with `#` are passed over.
@@ -173,5 +180,12 @@ impl Tokens {
     {
         let wanted = Sha256::digest(token);
         find_digest(&self.entries, &wanted)
+    }
+
+    /// What may be sent with the token of this digest; `None` where there is none.
+    pub fn find_digest(&self, digest: &[u8; 32]) -> Option<Rights>
+        ensures { result ≡ rights_of self.now digest.now }
+    {
+        find_digest(&self.entries, digest)
     }
 }

@@ -55,6 +55,8 @@ pub enum Word {
     Vars,
     /// `releases`: how many released outputs are shown.
     Releases,
+    /// `digest`: one number for the set of the log's records.
+    Digest,
     /// `release I`: the released output with this number, from 0.
     Release(u32),
     /// `counts O`: how many names this origin has.
@@ -88,6 +90,8 @@ fn word_of_one(word: &[u8]) -> Option<Word>
         Some(Word::Vars)
     } else if is_keyword(word, b"releases") {
         Some(Word::Releases)
+    } else if is_keyword(word, b"digest") {
+        Some(Word::Digest)
     } else {
         None
     }

@@ -1,1 +1,4 @@
 pub mod Moving
+pub mod Keeping
+pub mod Operating
+pub mod Places

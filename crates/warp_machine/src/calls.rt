@@ -1,10 +1,13 @@
 //! What comes to the machine of its connections and of the journal, and what it wants.
-ghost use Rattle.std.specs.Prelude.{◌≡◌, ◌≤◌, ◌++◌, [], IfSome, OnErr, OnOk, Some, drop, length, slice_get, take};
+ghost use Rattle.std.specs.Prelude.{◌≡◌, ◌≤◌, ◌++◌, [], IfNone, IfSome, OnErr, OnOk, Some, true, drop, length, slice_get, take};
 ghost use Rattle.warp_clients.specs.Crowd.{IsAway, IsOutputOf};
 ghost use Rattle.warp_replica.specs.Answered.{facts_of};
 ghost use Rattle.warp_clients.specs.Client.{ClientState, IsMe};
 ghost use Rattle.warp_clients.specs.Steps as steps;
-ghost use Rattle.warp_machine.specs.Moving.{Moved, Stepped, clients_in, with_limit};
+ghost use Rattle.warp_clients.specs.Steps.{ClientsState};
+ghost use Rattle.warp_machine.specs.Keeping.{HearsBehind, HearsKept, NoneKept, TakesFirst, keepings, keepings_in};
+ghost use Rattle.warp_machine.specs.Moving.{IsHearing, MayLeave, MayWriteOf, Moved, MovedWith, Stepped, TurnsAway, clients_in};
+ghost use Rattle.warp_machine.specs.Moving.{with_limit};
 
 use crate::action::{Action, Ending};
 use crate::conn::Want;
@@ -20,13 +23,17 @@ use warp_tag::OutOfMemory;
 /// While so many bytes are to be written to a client, no page of its own is asked for.
 pub(crate) const MOST_UNREAD: usize = 65_536;
 
+/// So many connections may come beyond the places, where tokens are wanted, until others are closed for them behind a turn.
+pub(crate) const MOST_COMING: u32 = 64;
+
 impl<T: Timeline> Machine<T> {
     /// A connection has come: who it is. `None` where it is turned away, and to be closed.
     pub fn came(&mut self, now: u64) -> Option<ClientId>
-        ensures moved { Moved (facts_of T.settled T.refused T.floor T.SLACK)
-            (clients_in self.old) (clients_in self.new) }
         ensures joins { IfSome result (λ who. Stepped (facts_of T.settled T.refused T.floor T.SLACK) (steps.Joins who)
             (clients_in self.old) (clients_in self.new)) }
+        ensures none { IfNone result (TurnsAway (facts_of T.settled T.refused T.floor T.SLACK)
+            (clients_in self.old) (clients_in self.new)) }
+        ensures anew { IfSome result (NoneKept (keepings_in self.new)) }
     {
         self.now = now;
         if !self.lets_in() {
@@ -49,26 +56,48 @@ impl<T: Timeline> Machine<T> {
         if self.ending.is_some() {
             return false;
         }
-        if self.conns.count() >= self.options.most_clients {
+        if !self.has_place() {
             self.counted.turned_away = self.counted.turned_away.saturating_add(1);
             return false;
         }
-        self.conns.reserve().is_ok()
+        self.takes_room()
+    }
+
+    /// Takes the room that one more may want; whether there was memory.
+    fn takes_room(&mut self) -> bool
+        ensures { self.new.clients ≡ self.old.clients }
+    {
+        if self.conns.reserve().is_err() {
+            return false;
+        }
+        !self.pages.has_tokens() || self.conns.reserve_unknown().is_ok()
+    }
+
+    /// Whether there is a place for one more: one that is free, or one that a connection without a token holds, which is closed
+    /// for it behind the turn.
+    fn has_place(&self) -> bool {
+        let places = self.options.most_clients;
+        if !self.pages.has_tokens() {
+            return self.conns.count() < places;
+        }
+        self.conns.known() < places && self.conns.count() < places.saturating_add(MOST_COMING)
     }
 
     /// Gives a client that has come its place; whether there was memory.
     pub(crate) fn give_place(&mut self, who: ClientId, peer: Option<u16>) -> bool
-        ensures { self.new.clients ≡ self.old.clients }
+        ensures same { self.new.clients ≡ self.old.clients }
+        ensures anew { result ≡ true → NoneKept (keepings self.new.conns) who }
     {
         if self.watchers.place(who).is_err() {
             return false;
         }
-        self.conns.place(who, peer, self.now)
+        let is_unknown = peer.is_none() && self.pages.has_tokens();
+        self.conns.place(who, peer, is_unknown, self.now)
     }
 
     /// Bytes of a client came, at most 16,384 at once and only where `wants` says so: how many are taken, which are all.
     pub fn bytes(&mut self, who: ClientId, bytes: &[u8], now: u64) -> usize
-        ensures moved { Moved (facts_of T.settled T.refused T.floor T.SLACK)
+        ensures hears { HearsBehind (facts_of T.settled T.refused T.floor T.SLACK) (keepings_in self.old) who bytes.now
             (clients_in self.old) (clients_in self.new) }
         ensures all { result ≡ length bytes.now }
     {
@@ -83,11 +112,12 @@ impl<T: Timeline> Machine<T> {
 
     /// A client hears these bytes, as far as it has room; the others are kept for it. Then it is asked what it says.
     fn take(&mut self, who: ClientId, bytes: &[u8])
-        ensures { Moved (facts_of T.settled T.refused T.floor T.SLACK) self.old.clients self.new.clients }
+        ensures { HearsBehind (facts_of T.settled T.refused T.floor T.SLACK) (keepings self.old.conns) who bytes.now
+            self.old.clients self.new.clients }
     {
         let heard = self.hear(who, bytes);
         self.conns.keep(who, &bytes[heard..]);
-        self.say(who);
+        self.hear_one(who);
         self.unwant_hear(who);
     }
 
@@ -103,8 +133,10 @@ impl<T: Timeline> Machine<T> {
     /// A client hears the first of these bytes for which it has room, where none wait before them: how many; all where its
     /// connection is lost.
     fn hear(&mut self, who: ClientId, bytes: &[u8]) -> usize
-        ensures moved { Moved (facts_of T.settled T.refused T.floor T.SLACK) self.old.clients self.new.clients }
+        ensures takes { TakesFirst (facts_of T.settled T.refused T.floor T.SLACK) (keepings self.old.conns) who bytes.now result
+            self.old.clients self.new.clients }
         ensures most { result ≤ length bytes.now }
+        ensures conns { self.new.conns ≡ self.old.conns }
     {
         if self.conns.has_rest(who) {
             return 0;
@@ -126,7 +158,7 @@ impl<T: Timeline> Machine<T> {
 
     /// The other end of a client's connection has said all.
     pub fn ended(&mut self, who: ClientId, now: u64)
-        ensures { Moved (facts_of T.settled T.refused T.floor T.SLACK)
+        ensures { HearsKept (facts_of T.settled T.refused T.floor T.SLACK) (keepings_in self.old) who
             (clients_in self.old) (clients_in self.new) }
     {
         self.now = now;
@@ -137,7 +169,7 @@ impl<T: Timeline> Machine<T> {
 
     /// A client's connection has failed, and is closed: nothing is known of it any more.
     pub fn gone(&mut self, who: ClientId, now: u64)
-        ensures { Moved (facts_of T.settled T.refused T.floor T.SLACK)
+        ensures { MayLeave (facts_of T.settled T.refused T.floor T.SLACK) who
             (clients_in self.old) (clients_in self.new) }
     {
         self.now = now;
@@ -146,7 +178,8 @@ impl<T: Timeline> Machine<T> {
 
     /// Nothing is known of a client any more.
     pub(crate) fn forget(&mut self, who: ClientId)
-        ensures { Moved (facts_of T.settled T.refused T.floor T.SLACK) self.old.clients self.new.clients }
+        ensures moved { Moved (facts_of T.settled T.refused T.floor T.SLACK) self.old.clients self.new.clients }
+        ensures leaves { MayLeave (facts_of T.settled T.refused T.floor T.SLACK) who self.old.clients self.new.clients }
     {
         self.conns.leave(who);
         self.watchers.leave(who);
@@ -165,7 +198,7 @@ impl<T: Timeline> Machine<T> {
 
     /// The first so many of these were written.
     pub fn sent(&mut self, who: ClientId, count: usize, now: u64)
-        ensures { Moved (facts_of T.settled T.refused T.floor T.SLACK)
+        ensures { MayWriteOf (facts_of T.settled T.refused T.floor T.SLACK) who count
             (clients_in self.old) (clients_in self.new) }
     {
         self.now = now;
@@ -185,6 +218,8 @@ impl<T: Timeline> Machine<T> {
     {
         if was_full {
             let _is_noted = self.watchers.want(who.key);
+            // Its pages are told in a turn, which may wait for nothing else.
+            self.has_more |= self.watchers.wanting() > 0;
         }
         if self.clients.output(who).is_empty() {
             self.conns.set_writing(who, false);
@@ -204,8 +239,9 @@ impl<T: Timeline> Machine<T> {
     /// Of so long a log may be told from now on, all of it where there is no journal; and whether the journal can't be
     /// written: then records of clients are refused 14, and peers wait.
     pub fn told_up_to(&mut self, limit: u32, is_failing: bool, now: u64)
-        ensures moved { Moved (facts_of T.settled T.refused T.floor T.SLACK)
-            (clients_in self.old) (clients_in self.new) }
+        ensures steps { (between : ClientsState T) × Stepped (facts_of T.settled T.refused T.floor T.SLACK) (steps.Limits limit)
+            (clients_in self.old) between × Stepped (facts_of T.settled T.refused T.floor T.SLACK) (steps.Fails is_failing)
+            between (clients_in self.new) }
         ensures told { clients_in self.new ≡ with_limit limit is_failing (clients_in self.old) }
     {
         self.now = now;
@@ -222,8 +258,12 @@ impl<T: Timeline> Machine<T> {
         if self.is_failing && !is_failing {
             self.wake_peers();
         }
+        let has_turned = is_failing != self.is_failing;
         self.limit = limit;
         self.is_failing = is_failing;
+        if has_turned {
+            self.note_ready();
+        }
     }
 
     /// The journal can't be written until the end: the host has ended.
@@ -265,14 +305,21 @@ impl<T: Timeline> Machine<T> {
     /// Standard input has ended: no more connections are let in, what clients said is answered, and the host ends once they
     /// are gone, within ten seconds.
     pub fn input_ended(&mut self, now: u64)
-        ensures { Moved (facts_of T.settled T.refused T.floor T.SLACK)
+        ensures { MovedWith (facts_of T.settled T.refused T.floor T.SLACK) IsHearing
             (clients_in self.old) (clients_in self.new) }
+    {
+        self.end_in_order(Note::InputEnded, now);
+    }
+
+    /// The same, for the reason that this note tells.
+    pub(crate) fn end_in_order(&mut self, why: Note, now: u64)
+        ensures { MovedWith (facts_of T.settled T.refused T.floor T.SLACK) IsHearing self.old.clients self.new.clients }
     {
         self.now = now;
         if self.ending.is_some() {
             return;
         }
-        self.tell(Note::InputEnded);
+        self.tell(why);
         self.ending = Some(now);
         self.shuts = true;
         self.peers.clear();
@@ -282,7 +329,7 @@ impl<T: Timeline> Machine<T> {
 
     /// Nothing more of any client is read.
     fn stop_hearing_all(&mut self)
-        ensures { Moved (facts_of T.settled T.refused T.floor T.SLACK) self.old.clients self.new.clients }
+        ensures { MovedWith (facts_of T.settled T.refused T.floor T.SLACK) IsHearing self.old.clients self.new.clients }
     {
         for at in 0..self.conns.places() {
             self.stop_hearing_at(at);
@@ -291,7 +338,7 @@ impl<T: Timeline> Machine<T> {
 
     /// Nothing more is read of the client in this place, if there is one.
     fn stop_hearing_at(&mut self, at: usize)
-        ensures { Moved (facts_of T.settled T.refused T.floor T.SLACK) self.old.clients self.new.clients }
+        ensures { MovedWith (facts_of T.settled T.refused T.floor T.SLACK) IsHearing self.old.clients self.new.clients }
     {
         let Some(who) = self.conns.who(at) else {
             return;
@@ -301,7 +348,7 @@ impl<T: Timeline> Machine<T> {
 
     /// Nothing more of a client is read. One that has not said what it speaks, or speaks HTTP, goes.
     fn stop_hearing(&mut self, who: ClientId)
-        ensures { Moved (facts_of T.settled T.refused T.floor T.SLACK) self.old.clients self.new.clients }
+        ensures { MovedWith (facts_of T.settled T.refused T.floor T.SLACK) IsHearing self.old.clients self.new.clients }
     {
         let kind = self.clients.kind(who);
         if !self.conns.deafen(who) {

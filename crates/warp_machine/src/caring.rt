@@ -57,6 +57,8 @@ impl<T: Timeline> Machine<T> {
         self.tell_operator();
         self.time_answers();
         self.note_seen();
+        self.note_ready();
+        self.note_lags();
     }
 
     /// The next moment at which there is something to do though nothing comes: 0 where that is now.
@@ -125,7 +127,17 @@ impl<T: Timeline> Machine<T> {
         let is_late = self.is_late_or_silent(who);
         let is_stopped = self.clients.is_stopped(who);
         let has_had = self.conns.has_had_its_words(who, is_stopped, self.now);
+        self.conns.close_if_tokenless(who, self.now);
         self.close_if(who, is_late | has_had);
+    }
+
+    /// A client was asked what it says: it may have brought a token.
+    pub(crate) fn note_token(&mut self, who: ClientId)
+        ensures { self.new.clients ≡ self.old.clients }
+    {
+        if self.conns.is_unknown(who) && self.token_of(who).is_some() {
+            self.conns.note_known(who);
+        }
     }
 
     /// A client's connection is to be closed, if that is so.
@@ -185,10 +197,7 @@ impl<T: Timeline> Machine<T> {
             self.counted.undescribed_told = undescribed;
             self.tell(Note::NoDescriptors(undescribed - counted.undescribed_told));
         }
-        if counted.slow > counted.slow_told {
-            self.counted.slow_told = counted.slow;
-            self.tell(Note::Slow(counted.slow - counted.slow_told));
-        }
+        self.tell_closed();
         let forbidden = self.pages.forbidden();
         if forbidden > counted.forbidden_told {
             self.counted.forbidden_told = forbidden;
@@ -200,8 +209,24 @@ impl<T: Timeline> Machine<T> {
         }
     }
 
+    /// Tells the operator who was closed.
+    fn tell_closed(&mut self)
+        ensures { self.new.clients ≡ self.old.clients }
+    {
+        let counted = self.counted;
+        if counted.slow > counted.slow_told {
+            self.counted.slow_told = counted.slow;
+            self.tell(Note::Slow(counted.slow - counted.slow_told));
+        }
+        let tokenless = self.conns.tokenless();
+        if tokenless > counted.tokenless_told {
+            self.counted.tokenless_told = tokenless;
+            self.tell(Note::Tokenless(tokenless - counted.tokenless_told));
+        }
+    }
+
     /// Notes the horizon, where all is executed.
-    fn note_horizon(&mut self)
+    pub(crate) fn note_horizon(&mut self)
         ensures { self.new.clients ≡ self.old.clients }
     {
         if !self.clients.room().is_settled() {
@@ -220,25 +245,30 @@ impl<T: Timeline> Machine<T> {
         let counts = self.clients.counts();
         let journal = self.journal;
         let seen = Seen {
+            version: self.options.version,
             clients: u64::from(self.conns.count()),
             most_clients: u64::from(self.options.most_clients),
             lines: counts.lines,
             replies: counts.replies,
             pushes: counts.pushes,
-            refused: counts.refused,
+            refusals: counts.refusals,
             log: u64::from(self.newest()),
             most_records: u64::from(self.most_records),
+            untold: u64::from(self.untold()),
             horizon_time: self.counted.horizon.0,
             horizon_microstep: self.counted.horizon.1,
+            rows_again: self.counted.rows_again,
             peers: self.peers.len() as u64,
             peers_connected: self.peers_found(),
             clients_refused: self.counted.turned_away.saturating_add(journal.undescribed),
+            tokenless: self.conns.tokenless(),
             unauthorized: self.pages.unauthorized(),
             forbidden: self.pages.forbidden(),
             journal_records: u64::from(journal.records),
             journal_unsynced: u64::from(journal.unsynced),
             journal_waits: journal.waits,
             journal_failing: u64::from(self.is_failing),
+            waits: self.stopwatch.waits(self.now),
             histogram: self.stopwatch.histogram(),
         };
         self.pages.see(seen);

@@ -1,5 +1,8 @@
 //! A connection: what is known of it beside what its client says, and what is wanted of it.
 
+ghost use Rattle.std.specs.Prelude.{◌≡◌, ◌↔◌, IsTrue, drop, false, length, min, true};
+ghost use Rattle.warp_machine.specs.Keeping.{IsPlaceOf, KeepsOn, keeping, keeps_behind, keeps_none};
+
 use crate::action::Action;
 use std::alloc::Global;
 use warp_clients::ClientId;
@@ -25,6 +28,9 @@ const LINGER: u64 = 2 * SECOND;
 
 /// How long the last output of a client may wait.
 const LAST_WORDS: u64 = 10 * SECOND;
+
+/// Within so long a connection brings a token, where one is wanted.
+const TOKEN_WITHIN: u64 = 10 * SECOND;
 
 /// Whether so many microseconds are over since then.
 pub(crate) fn is_past(now: u64, since: u64, span: u64) -> bool {
@@ -131,6 +137,11 @@ pub(crate) struct Conn {
     pub(crate) heard: u64,
     /// When it was pinged last, or came.
     pinged: u64,
+    came: u64,
+    /// It has brought no token where one is wanted, and keeps its place yet.
+    pub(crate) is_unknown: bool,
+    /// It is to be closed since it has brought no token.
+    pub(crate) is_leaving: bool,
     /// Since when its output waits of which its client is told nothing more.
     stopped: Option<u64>,
     /// Since when its way out is shut.
@@ -152,7 +163,9 @@ pub(crate) struct Conn {
 
 impl Conn {
     /// A place where nobody is.
-    pub(crate) fn new(alloc: Global) -> Conn {
+    pub(crate) fn new(alloc: Global) -> Conn
+        ensures { keeping result ≡ keeps_none false 0 }
+    {
         Conn {
             round: 0,
             is_here: false,
@@ -163,6 +176,9 @@ impl Conn {
             sent: 0,
             heard: 0,
             pinged: 0,
+            came: 0,
+            is_unknown: false,
+            is_leaving: false,
             stopped: None,
             lingers: None,
             has_ended: false,
@@ -176,26 +192,37 @@ impl Conn {
         }
     }
 
-    /// Nothing came of this one yet, in this round of its place.
-    pub(crate) fn begin(&mut self, round: u64, peer: Option<u16>, now: u64) {
+    /// Nothing came of this one yet, in this round of its place: it has to bring a token or not.
+    pub(crate) fn begin(&mut self, round: u64, peer: Option<u16>, is_unknown: bool, now: u64)
+        ensures { keeping self.new ≡ keeps_none true round }
+    {
         self.round = round;
         self.is_here = true;
+        self.rest.clear();
         self.peer = peer;
         self.visit = Visit::new();
         self.answered = now;
         self.sent = now;
         self.heard = now;
         self.pinged = now;
+        self.came = now;
+        self.is_unknown = is_unknown;
     }
 
     /// Whether it is that of this client.
-    pub(crate) fn is_of(&self, who: ClientId) -> bool {
+    pub(crate) fn is_of(&self, who: ClientId) -> bool
+        ensures { IsTrue result ↔ IsPlaceOf who (keeping self.now) }
+    {
         self.is_here && self.round == who.round
     }
 
     /// Nobody is here any more. Where it stands in lists it is passed over.
-    pub(crate) fn clear(&mut self, alloc: Global) {
+    pub(crate) fn clear(&mut self, alloc: Global)
+        ensures { keeping self.new ≡ keeps_none false self.old.round }
+    {
         self.is_here = false;
+        self.is_unknown = false;
+        self.is_leaving = false;
         self.is_talking = false;
         self.is_listed = false;
         self.peer = None;
@@ -211,7 +238,9 @@ impl Conn {
     }
 
     /// Bytes came of it; whether they are for its client.
-    pub(crate) fn note_bytes(&mut self, is_first: bool, now: u64) -> bool {
+    pub(crate) fn note_bytes(&mut self, is_first: bool, now: u64) -> bool
+        ensures { keeping self.new ≡ keeping self.old }
+    {
         if self.lingers.is_some() || self.is_deaf {
             return false;
         }
@@ -224,7 +253,9 @@ impl Conn {
     }
 
     /// Keeps bytes for which its client had no room; whether they are kept: there are not too many, and there was memory.
-    pub(crate) fn keep(&mut self, bytes: &[u8]) -> bool {
+    pub(crate) fn keep(&mut self, bytes: &[u8]) -> bool
+        ensures { KeepsOn bytes.now (keeping self.old) (keeping self.new) }
+    {
         if bytes.len() > MOST_REST.saturating_sub(self.rest.len()) {
             return false;
         }
@@ -232,7 +263,9 @@ impl Conn {
     }
 
     /// Its other end has said all. Whether its client is to be told so.
-    pub(crate) fn note_end(&mut self) -> bool {
+    pub(crate) fn note_end(&mut self) -> bool
+        ensures { keeping self.new ≡ keeping self.old }
+    {
         self.has_ended = true;
         self.is_deaf = true;
         self.lingers.is_none()
@@ -265,7 +298,9 @@ impl Conn {
     }
 
     /// Its client heard the first so many bytes that waited. Whether some wait still.
-    pub(crate) fn drop_rest(&mut self, alloc: Global, count: usize) -> bool {
+    pub(crate) fn drop_rest(&mut self, alloc: Global, count: usize) -> bool
+        ensures { keeping self.new ≡ keeps_behind count (keeping self.old) }
+    {
         drop_front(alloc, &mut self.rest, count);
         !self.rest.is_empty()
     }
@@ -325,6 +360,11 @@ impl Conn {
         }
     }
 
+    /// Whether it has brought no token in the time that it has for one.
+    pub(crate) fn lacks_token(&self, now: u64) -> bool {
+        self.is_unknown && is_past(now, self.came, TOKEN_WITHIN)
+    }
+
     /// Whether it brings no whole request, or takes nothing of its answers, which wait or not.
     pub(crate) fn is_late(&self, has_output: bool, now: u64) -> bool {
         if has_output {
@@ -335,7 +375,9 @@ impl Conn {
 }
 
 /// Lets go of the first so many of these bytes; where none are left, of their memory.
-fn drop_front(alloc: Global, bytes: &mut Vec<u8>, count: usize) {
+fn drop_front(alloc: Global, bytes: &mut Vec<u8>, count: usize)
+    ensures { bytes.new.items ≡ drop (min count (length bytes.old.items)) bytes.old.items }
+{
     if count >= bytes.len() {
         *bytes = Vec::new(alloc);
         return;

@@ -1,5 +1,8 @@
 //! The connections of a host, by their clients' keys.
-ghost use Rattle.std.specs.Prelude.{◌<◌, IfSome, length};
+ghost use Rattle.std.specs.Prelude.{◌≡◌, ◌<◌, IfNone, IfSome, Some, false, length, slice_get, true};
+ghost use Rattle.warp_machine.specs.Keeping.{AreKept, IsPlaceOf, KeepsFor, NoneKept, keeping, keepings};
+ghost use Rattle.warp_machine.specs.Places.{kept_of, most_unknown};
+ghost use Rattle.warp_machine.specs.declared.conn.Conn.{Conn};
 
 use crate::action::Action;
 use crate::conn::{CLOSE_AFTER, Conn, Want, is_past};
@@ -7,6 +10,9 @@ use std::alloc::{AllocError, Global};
 use std::collections::VecDeque;
 use warp_clients::ClientId;
 use warp_pages::Visit;
+
+/// So many places are kept at most from connections that have brought no token.
+const MOST_KEPT: u32 = 16;
 
 /// The connections by their clients' keys.
 #[derive(Drop)]
@@ -19,6 +25,15 @@ pub(crate) struct Conns {
     listed: VecDeque<ClientId>,
     /// How many are there that have a socket.
     count: u32,
+    /// Those that came without a token where one is wanted, in the order in which they came. Some have brought one since, or
+    /// are gone.
+    unknown: VecDeque<ClientId>,
+    /// How many have brought none, and keep their places yet.
+    strangers: u32,
+    /// How many are to be closed since they have brought none.
+    leaving: u32,
+    /// How many were closed for that.
+    tokenless: u64,
 }
 
 impl Conns {
@@ -30,12 +45,21 @@ impl Conns {
             talking: VecDeque::new(alloc),
             listed: VecDeque::new(alloc),
             count: 0,
+            unknown: VecDeque::new(alloc),
+            strangers: 0,
+            leaving: 0,
+            tokenless: 0,
         }
     }
 
-    /// How many are there that have a socket.
+    /// How many are there that have a socket, but for those that are to be closed since they have brought no token.
     pub(crate) fn count(&self) -> u32 {
-        self.count
+        self.count.saturating_sub(self.leaving)
+    }
+
+    /// How many of them have brought a token, or need none.
+    pub(crate) fn known(&self) -> u32 {
+        self.count().saturating_sub(self.strangers)
     }
 
     /// How many places there are.
@@ -53,26 +77,163 @@ impl Conns {
         self.listed.reserve(most.saturating_sub(listed))
     }
 
-    /// Gives a client its place, for which room was taken; whether it got it.
-    pub(crate) fn place(&mut self, who: ClientId, peer: Option<u16>, now: u64) -> bool {
-        let at = who.key as usize;
-        if at == self.all.len() {
+    /// Takes the room that one more may want that has brought no token. Those that have brought one since, or are gone, are
+    /// let go of once they are as many as there are places.
+    pub(crate) fn reserve_unknown(&mut self) -> Result<(), AllocError> {
+        let most = self.all.len().saturating_add(1).saturating_mul(2);
+        if self.unknown.len() >= most {
+            self.tidy_unknown();
+        }
+        let unknown = self.unknown.len();
+        self.unknown.reserve(most.saturating_sub(unknown))
+    }
+
+    /// Lets go of those that have brought a token since they came, or are gone.
+    fn tidy_unknown(&mut self) {
+        for _ in 0..self.unknown.len() {
+            let Some(who) = self.unknown.pop_front() else {
+                return;
+            };
+            if self.is_unknown(who) {
+                // There is room: it was taken from there.
+                let _ = self.unknown.push_back(who);
+            }
+        }
+    }
+
+    /// Gives a client its place, for which room was taken; it has to bring a token or not. Whether it got it. Nothing is kept
+    /// for it.
+    pub(crate) fn place(
+        &mut self,
+        who: ClientId,
+        peer: Option<u16>,
+        is_unknown: bool,
+        now: u64,
+    ) -> bool
+        ensures { result ≡ true → NoneKept (keepings self.new) who }
+    {
+        self.add_place(who);
+        if who.key as usize >= self.places() {
+            return false;
+        }
+        self.count_in(who, peer.is_none(), is_unknown);
+        self.begin(who, peer, is_unknown, now)
+    }
+
+    /// A client that has a socket or not, and has to bring a token or not, is counted.
+    fn count_in(&mut self, who: ClientId, has_socket: bool, is_unknown: bool) {
+        if has_socket {
+            self.count = self.count.saturating_add(1);
+        }
+        if is_unknown {
+            self.strangers = self.strangers.saturating_add(1);
+            // There is room: it was taken before.
+            let _ = self.unknown.push_back(who);
+        }
+    }
+
+    /// Makes a place for a client behind the others, where that is its place.
+    fn add_place(&mut self, who: ClientId) {
+        if who.key as usize == self.all.len() {
             // There is room: it was taken before.
             let _ = self.all.push(Conn::new(self.alloc));
         }
-        let Some(conn) = self.all.get_mut(at) else {
+    }
+
+    /// A client begins in its place, if there is one; whether there is.
+    fn begin(&mut self, who: ClientId, peer: Option<u16>, is_unknown: bool, now: u64) -> bool
+        ensures { result ≡ true → NoneKept (keepings self.new) who }
+    {
+        let Some(conn) = self.all.get_mut(who.key as usize) else {
             return false;
         };
-        conn.begin(who.round, peer, now);
-        if peer.is_none() {
-            self.count = self.count.saturating_add(1);
-        }
+        conn.begin(who.round, peer, is_unknown, now);
         true
+    }
+
+    /// Whether a client has brought no token where one is wanted, and keeps its place yet.
+    pub(crate) fn is_unknown(&self, who: ClientId) -> bool {
+        match self.get(who) {
+            Some(conn) => conn.is_unknown,
+            None => false,
+        }
+    }
+
+    /// A client has brought a token, or is to have its place no more.
+    pub(crate) fn note_known(&mut self, who: ClientId) {
+        let Some(at) = self.find(who) else {
+            return;
+        };
+        if self.all[at].is_unknown {
+            self.all[at].is_unknown = false;
+            self.strangers = self.strangers.saturating_sub(1);
+        }
+    }
+
+    /// Whether a client has brought no token in the time that it has for one.
+    fn lacks_token(&self, who: ClientId, now: u64) -> bool {
+        match self.get(who) {
+            Some(conn) => conn.lacks_token(now),
+            None => false,
+        }
+    }
+
+    /// How many were closed since they had brought no token.
+    pub(crate) fn tokenless(&self) -> u64 {
+        self.tokenless
+    }
+
+    /// A client is to be closed, if it has brought no token in the time that it has for one.
+    pub(crate) fn close_if_tokenless(&mut self, who: ClientId, now: u64) {
+        if self.lacks_token(who, now) {
+            self.close_tokenless(who);
+        }
+    }
+
+    /// A client is to be closed that has brought no token.
+    fn close_tokenless(&mut self, who: ClientId) {
+        self.note_known(who);
+        self.note_leaving(who);
+        self.tokenless = self.tokenless.saturating_add(1);
+        self.want(who, Want::Close);
+    }
+
+    /// There are so many places. As far as connections without a token hold more of them than they may, those that have
+    /// waited longest are to be closed.
+    pub(crate) fn keep_places(&mut self, places: u32) {
+        for _ in 0..self.unknown.len() {
+            if self.strangers <= most_unknown(places.saturating_sub(self.known())) {
+                return;
+            }
+            self.close_oldest();
+        }
+    }
+
+    /// The first of those that came without a token is to be closed, if it is there and has brought none since.
+    fn close_oldest(&mut self) {
+        let Some(who) = self.unknown.pop_front() else {
+            return;
+        };
+        if !self.is_unknown(who) {
+            return;
+        }
+        self.close_tokenless(who);
+    }
+
+    /// A client is to be closed since it has brought no token.
+    fn note_leaving(&mut self, who: ClientId) {
+        let Some(at) = self.find(who) else {
+            return;
+        };
+        self.all[at].is_leaving = true;
+        self.leaving = self.leaving.saturating_add(1);
     }
 
     /// The place of a client's connection, if it is there.
     fn find(&self, who: ClientId) -> Option<usize>
-        ensures { IfSome result (λ at. at < length self.now.all.items) }
+        ensures some { IfSome result (λ at. at < length self.now.all.items) }
+        ensures there { IfSome result (λ at. (at ≡ who.key) × ((conn : Conn) × (slice_get self.now.all.items at ≡ Some conn)
+            × IsPlaceOf who (keeping conn))) }
     {
         let at = who.key as usize;
         if at >= self.all.len() || !self.all[at].is_of(who) {
@@ -82,7 +243,10 @@ impl Conns {
     }
 
     /// The connection of a client.
-    fn get(&self, who: ClientId) -> Option<&Conn> {
+    fn get(&self, who: ClientId) -> Option<&Conn>
+        ensures there { IfSome result (λ conn. (slice_get self.now.all.items who.key ≡ Some conn.now) × IsPlaceOf who (keeping conn.now)) }
+        ensures away { IfNone result (NoneKept (keepings self.now) who) }
+    {
         let conn = self.all.get(who.key as usize)?;
         if conn.is_of(who) { Some(conn) } else { None }
     }
@@ -98,7 +262,9 @@ impl Conns {
     }
 
     /// Whether bytes of a client wait for which it had no room.
-    pub(crate) fn has_rest(&self, who: ClientId) -> bool {
+    pub(crate) fn has_rest(&self, who: ClientId) -> bool
+        ensures { result ≡ false → NoneKept (keepings self.now) who }
+    {
         match self.get(who) {
             Some(conn) => !conn.rest.is_empty(),
             None => false,
@@ -106,7 +272,9 @@ impl Conns {
     }
 
     /// The bytes of a client that wait, for which it had no room.
-    pub(crate) fn rest(&self, who: ClientId) -> Option<&[u8]> {
+    pub(crate) fn rest(&self, who: ClientId) -> Option<&[u8]>
+        ensures { IfSome result (λ kept. AreKept (keepings self.now) who kept.now) }
+    {
         let conn = self.get(who)?;
         Some(&conn.rest)
     }
@@ -174,7 +342,9 @@ impl Conns {
     }
 
     /// Bytes came of a client; whether they are for it.
-    pub(crate) fn note_bytes(&mut self, who: ClientId, is_first: bool, now: u64) -> bool {
+    pub(crate) fn note_bytes(&mut self, who: ClientId, is_first: bool, now: u64) -> bool
+        ensures { keepings self.new ≡ keepings self.old }
+    {
         let Some(at) = self.find(who) else {
             return false;
         };
@@ -182,20 +352,25 @@ impl Conns {
     }
 
     /// Keeps bytes of a client for which it had no room. Where there are too many, or no memory, it is to be closed.
-    pub(crate) fn keep(&mut self, who: ClientId, bytes: &[u8]) {
+    pub(crate) fn keep(&mut self, who: ClientId, bytes: &[u8])
+        ensures { KeepsFor bytes.now who (keepings self.old) (keepings self.new) }
+    {
         if bytes.is_empty() {
             return;
         }
         let Some(at) = self.find(who) else {
             return;
         };
-        if !self.all[at].keep(bytes) {
-            self.want(who, Want::Close);
+        if self.all[at].keep(bytes) {
+            return;
         }
+        self.want(who, Want::Close);
     }
 
     /// The other end of a client has said all. Whether it is to be told so; else it is to be closed, if it is there.
-    pub(crate) fn note_end(&mut self, who: ClientId) -> bool {
+    pub(crate) fn note_end(&mut self, who: ClientId) -> bool
+        ensures { keepings self.new ≡ keepings self.old }
+    {
         let Some(at) = self.find(who) else {
             return false;
         };
@@ -298,6 +473,12 @@ impl Conns {
         if self.all[at].peer.is_none() {
             self.count = self.count.saturating_sub(1);
         }
+        if self.all[at].is_unknown {
+            self.strangers = self.strangers.saturating_sub(1);
+        }
+        if self.all[at].is_leaving {
+            self.leaving = self.leaving.saturating_sub(1);
+        }
         self.all[at].clear(self.alloc);
     }
 
@@ -335,7 +516,9 @@ impl Conns {
     }
 
     /// This is wanted of a connection.
-    pub(crate) fn want(&mut self, who: ClientId, want: Want) {
+    pub(crate) fn want(&mut self, who: ClientId, want: Want)
+        ensures { keepings self.new ≡ keepings self.old }
+    {
         let Some(at) = self.find(who) else {
             return;
         };
@@ -355,7 +538,9 @@ impl Conns {
     }
 
     /// Something is wanted of this connection.
-    fn list(&mut self, who: ClientId) {
+    fn list(&mut self, who: ClientId)
+        ensures { keepings self.new ≡ keepings self.old }
+    {
         let Some(at) = self.find(who) else {
             return;
         };
@@ -403,4 +588,19 @@ impl Conns {
         }
         Some(want.action(who))
     }
+}
+
+/// So many of the places that those with a token leave are kept from those without one: sixteen, or half where they leave
+/// fewer than 32.
+fn kept_of(left: u32) -> u32
+    ensures { result ≡ kept_of left }
+{
+    (left / 2).min(MOST_KEPT)
+}
+
+/// So many of these places connections without a token may hold.
+fn most_unknown(left: u32) -> u32
+    ensures { result ≡ most_unknown left }
+{
+    left.saturating_sub(kept_of(left))
 }

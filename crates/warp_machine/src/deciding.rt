@@ -2,7 +2,9 @@
 
 use crate::machine::Machine;
 use crate::start::LastDone;
-use warp_events::{Action, ClientId, Decides, JournalSeen, Named, Note};
+use warp_events::{
+    Action, ClientId, Decides, JournalSeen, Named, Note, Operated, OperatorAnswer, Undone,
+};
 use warp_line::Timeline;
 use warp_record::Record;
 use warp_tag::OutOfMemory;
@@ -82,6 +84,14 @@ impl<T: Timeline, P: LastDone<T>> Decides<P> for Machine<T> {
 
     fn input_ended(&mut self, now: u64) {
         Machine::input_ended(self, now);
+    }
+
+    fn operator(&mut self, line: &[u8], now: u64) -> Operated {
+        Machine::operator(self, line, now)
+    }
+
+    fn tokens_read(&mut self, text: Result<&[u8], Undone>, now: u64) -> OperatorAnswer {
+        Machine::tokens_read(self, text, now)
     }
 
     fn log_len(&self) -> u32 {

@@ -6,21 +6,29 @@
 mod action;
 mod calls;
 mod caring;
+mod comparing;
 mod conn;
 mod conns;
 mod deciding;
 mod hosting;
 mod machine;
 mod moves;
+mod operating;
 mod peering;
 mod pushing;
+mod ready;
+mod rows;
+mod shares;
 mod start;
 mod stepping;
+mod token_text;
 mod turning;
 
 pub use hosting::host_machine;
 pub use machine::Machine;
+pub use operating::{Level, OperatorWord, read_operator};
 pub use start::{LastDone, Options, PeerAt, Start};
+pub use token_text::{LONGEST_SAID, NoTokens, is_silent, read_tokens};
 pub use warp_events::{
-    Action, ClientId, Decides, Ending, JournalSeen, Named, Note, NoteText, PeerAction,
+    Action, BadTokens, ClientId, Decides, Ending, JournalSeen, Named, Note, NoteText, PeerAction,
 };

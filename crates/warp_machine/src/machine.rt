@@ -1,14 +1,18 @@
 //! The machine: what it holds, and how it begins.
 
-ghost use Rattle.std.specs.Prelude.{◌≡◌, IfOk};
+ghost use Rattle.std.specs.Prelude.{◌≡◌, IfOk, OnOk};
 ghost use Rattle.warp_replica.specs.Answered.{facts_of};
 ghost use Rattle.warp_clients.specs.Tale.{IsEmpty};
-ghost use Rattle.warp_machine.specs.Moving.{Began, Moved, clients_in};
+ghost use Rattle.warp_machine.specs.Moving.{Began, IsFollowing, MovedWith, clients_in};
 
 use crate::action::Ending;
+use crate::calls::MOST_COMING;
+use crate::comparing::Steady;
 use crate::conns::Conns;
 use crate::moves;
+use crate::operating::Level;
 use crate::peering::Followed;
+use crate::shares::Shares;
 use crate::start::{JournalSeen, Options, PeerAt, Start};
 use std::alloc::Global;
 use std::collections::VecDeque;
@@ -19,7 +23,7 @@ use warp_pages::{Pages, Seen, Stopwatch};
 use warp_push::{Steps, Watchers};
 use warp_room::Room;
 use warp_service::{Named, Note, Peer, Timers};
-use warp_tag::{Form, OutOfMemory};
+use warp_tag::{Form, OutOfMemory, Tag};
 use warp_trace::Labels;
 
 /// So many lines of a client may wait in the room.
@@ -42,6 +46,8 @@ pub(crate) struct Counted {
     /// How many clients were too slow: in all, and as was told.
     pub(crate) slow: u64,
     pub(crate) slow_told: u64,
+    /// How many were closed without a token, as was told.
+    pub(crate) tokenless_told: u64,
     /// How many requests were refused, as was told.
     pub(crate) forbidden_told: u64,
     /// That the log is full was told.
@@ -50,6 +56,9 @@ pub(crate) struct Counted {
     pub(crate) newest: u32,
     /// The horizon, as it was seen last: its time and its microstep.
     pub(crate) horizon: (u64, u64),
+    /// The last tag that was executed, and how many rows were executed that are not after it.
+    pub(crate) front: Option<Tag>,
+    pub(crate) rows_again: u64,
 }
 
 /// Nothing was counted.
@@ -59,10 +68,13 @@ const NOTHING_COUNTED: Counted = Counted {
     undescribed_told: 0,
     slow: 0,
     slow_told: 0,
+    tokenless_told: 0,
     forbidden_told: 0,
     is_full_told: false,
     newest: 0,
     horizon: (0, 0),
+    front: None,
+    rows_again: 0,
 };
 
 /// Nothing is known of a journal: there is none.
@@ -79,6 +91,7 @@ pub struct Machine<T: Timeline> {
     pub(crate) alloc: Global,
     pub(crate) clients: Clients<T>,
     pub(crate) conns: Conns,
+    pub(crate) shares: Shares,
     pub(crate) watchers: Watchers,
     pub(crate) steps: Steps,
     /// The names by which steps are told; none while they are lent to who notes.
@@ -87,6 +100,8 @@ pub struct Machine<T: Timeline> {
     pub(crate) peers: Vec<Followed>,
     /// Some peer may want something.
     pub(crate) are_peers_due: bool,
+    /// For how long the log has had as many records as it has.
+    pub(crate) steady: Steady,
     pub(crate) notes: VecDeque<Note>,
     pub(crate) stopwatch: Stopwatch,
     pub(crate) timers: Timers,
@@ -96,6 +111,8 @@ pub struct Machine<T: Timeline> {
     pub(crate) most_records: u32,
     /// The answer to `program`.
     program: Vec<u8>,
+    /// Which notes are told.
+    pub(crate) level: Level,
     /// The time of the last call.
     pub(crate) now: u64,
     /// Of so long a log may be told.
@@ -161,12 +178,14 @@ impl<T: Timeline> Machine<T> {
             alloc,
             clients,
             conns: Conns::new(alloc),
+            shares: Shares::new(alloc),
             watchers: Watchers::new(alloc),
             steps: Steps::new(alloc),
             labels: Some(labels),
             pages,
             peers: Vec::new(alloc),
             are_peers_due: true,
+            steady: Steady::new(now),
             notes,
             stopwatch: Stopwatch::new(alloc),
             timers: Timers::new(now),
@@ -175,6 +194,7 @@ impl<T: Timeline> Machine<T> {
             options,
             most_records,
             program,
+            level: Level::Info,
             now,
             limit: 0,
             is_failing: false,
@@ -189,9 +209,21 @@ impl<T: Timeline> Machine<T> {
         }
     }
 
+    /// Notes what is so at the start: that the log is full is told, and not only when a record comes.
+    fn note_start(&mut self)
+        ensures { self.new.clients ≡ self.old.clients }
+    {
+        if self.is_full() {
+            self.counted.is_full_told = true;
+            self.tell(Note::LogFull);
+        }
+        self.note_ready();
+    }
+
     /// Follows these peers.
     fn follow_all(&mut self, peers: Vec<PeerAt>) -> Result<(), OutOfMemory>
-        ensures { Moved (facts_of T.settled T.refused T.floor T.SLACK) self.old.clients self.new.clients }
+        ensures { OnOk result (MovedWith (facts_of T.settled T.refused T.floor T.SLACK) IsFollowing
+            self.old.clients self.new.clients) }
     {
         let form = self.clients.room().replica().program().form();
         for peer in peers {
@@ -202,7 +234,8 @@ impl<T: Timeline> Machine<T> {
 
     /// Follows a peer: a client with all rights brings its lines.
     fn follow(&mut self, form: Form, peer: PeerAt) -> Result<(), OutOfMemory>
-        ensures { Moved (facts_of T.settled T.refused T.floor T.SLACK) self.old.clients self.new.clients }
+        ensures { OnOk result (MovedWith (facts_of T.settled T.refused T.floor T.SLACK) IsFollowing
+            self.old.clients self.new.clients) }
     {
         let Ok(number) = u16::try_from(self.peers.len()) else {
             return Err(OutOfMemory);
@@ -210,6 +243,7 @@ impl<T: Timeline> Machine<T> {
         let PeerAt { address, token } = peer;
         let program = Vec::from_slice(self.alloc, &self.program)?;
         let peer = Peer::new(self.alloc, address, form, program, token, self.now);
+        self.pages.name_peer(peer.name())?;
         self.conns.reserve()?;
         let Some(who) = moves::come_as(&mut self.clients, Rights::All) else {
             return Err(OutOfMemory);
@@ -225,7 +259,7 @@ impl<T: Timeline> Machine<T> {
     pub(crate) fn tell(&mut self, note: Note)
         ensures { self.new.clients ≡ self.old.clients }
     {
-        if self.notes.len() < MOST_NOTES {
+        if self.level.tells(&note) && self.notes.len() < MOST_NOTES {
             let _ = self.notes.push_back(note);
         }
     }
@@ -233,7 +267,9 @@ impl<T: Timeline> Machine<T> {
     /// What the text of a note names beside its fields.
     pub fn named(&self, note: &Note) -> Named<'_> {
         let peer = match *note {
-            Note::Peer { peer, .. } => self.peer_name(u16::try_from(peer).unwrap_or(u16::MAX)),
+            Note::Peer { peer, .. } | Note::PeerDiffers(peer) => {
+                self.peer_name(u16::try_from(peer).unwrap_or(u16::MAX))
+            }
             _ => "",
         };
         Named {
@@ -244,8 +280,9 @@ impl<T: Timeline> Machine<T> {
     }
 }
 
-/// How many clients there may be with so many peers.
+/// How many clients there may be with so many peers, and with those that come before others are closed for them.
 fn most_of(clients: u32, peers: usize) -> u32 {
+    let clients = clients.saturating_add(MOST_COMING);
     clients.saturating_add(u32::try_from(peers).unwrap_or(u32::MAX))
 }
 
@@ -278,7 +315,11 @@ fn begin<T: Timeline>(
     facts.form = replica.program().form();
     facts.most_clients = most_of(options.most_clients, peers.len());
     let most_records = facts.form.most_records();
-    let seen = Seen::nothing(u64::from(options.wanted), u64::from(most_records));
+    let seen = Seen::nothing(
+        options.version,
+        u64::from(options.wanted),
+        u64::from(most_records),
+    );
     // What is made is handed on with what could not be, so that only one function lets go of all.
     let pages = Pages::new(alloc, texts, seen);
     let room = Room::new(alloc, replica, MOST_LINES, MOST_ANSWERS);
@@ -302,6 +343,7 @@ fn with_pages<T: Timeline>(
     let Ok(pages) = pages else {
         return Err(OutOfMemory);
     };
-    let machine = Machine::over(alloc, clients, labels, pages, program, options, now);
+    let mut machine = Machine::over(alloc, clients, labels, pages, program, options, now);
+    machine.note_start();
     Ok(Begun { machine, peers })
 }

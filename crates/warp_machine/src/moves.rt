@@ -1,9 +1,9 @@
 //! What a host does with its clients: each call moves them by steps of theirs.
-ghost use Rattle.std.specs.Prelude.{◌≡◌, ◌≤◌, IfSome, length, take};
+ghost use Rattle.std.specs.Prelude.{◌≡◌, ◌≤◌, IfNone, IfSome, length, take};
 ghost use Rattle.warp_replica.specs.Answered.{facts_of};
 ghost use Rattle.warp_clients.specs.Client.{Heard};
 ghost use Rattle.warp_clients.specs.Steps as steps;
-ghost use Rattle.warp_machine.specs.Moving.{Moved, Stepped};
+ghost use Rattle.warp_machine.specs.Moving.{MayLeave, MayWriteOf, Moved, Stepped, TurnsAway};
 
 use warp_clients::{ClientId, Clients, Visits, Worked};
 use warp_hub::Rights;
@@ -15,9 +15,9 @@ use warp_watch::Told;
 /// A client has come, with the rights that it has without a token. `None` where there are as many as may be, or there was
 /// no memory.
 pub(crate) fn come<T: Timeline>(clients: &mut Clients<T>) -> Option<ClientId>
-    ensures moved { Moved (facts_of T.settled T.refused T.floor T.SLACK) clients.old clients.new }
     ensures joins { IfSome result (λ who. Stepped (facts_of T.settled T.refused T.floor T.SLACK) (steps.Joins who)
         clients.old clients.new) }
+    ensures none { IfNone result (TurnsAway (facts_of T.settled T.refused T.floor T.SLACK) clients.old clients.new) }
 {
     let Ok(who) = clients.come() else {
         return None;
@@ -27,9 +27,9 @@ pub(crate) fn come<T: Timeline>(clients: &mut Clients<T>) -> Option<ClientId>
 
 /// A client has come with these rights. `None` where there are as many as may be, or there was no memory.
 pub(crate) fn come_as<T: Timeline>(clients: &mut Clients<T>, rights: Rights) -> Option<ClientId>
-    ensures moved { Moved (facts_of T.settled T.refused T.floor T.SLACK) clients.old clients.new }
     ensures enters { IfSome result (λ who. Stepped (facts_of T.settled T.refused T.floor T.SLACK) (steps.Enters who rights)
         clients.old clients.new) }
+    ensures none { IfNone result (TurnsAway (facts_of T.settled T.refused T.floor T.SLACK) clients.old clients.new) }
 {
     let Ok(who) = clients.come_as(rights) else {
         return None;
@@ -39,7 +39,8 @@ pub(crate) fn come_as<T: Timeline>(clients: &mut Clients<T>, rights: Rights) -> 
 
 /// A client is gone.
 pub(crate) fn leave<T: Timeline>(clients: &mut Clients<T>, who: ClientId)
-    ensures { Moved (facts_of T.settled T.refused T.floor T.SLACK) clients.old clients.new }
+    ensures moved { Moved (facts_of T.settled T.refused T.floor T.SLACK) clients.old clients.new }
+    ensures leaves { MayLeave (facts_of T.settled T.refused T.floor T.SLACK) who clients.old clients.new }
 {
     clients.leave(who);
 }
@@ -50,10 +51,10 @@ pub(crate) fn hear<T: Timeline>(
     who: ClientId,
     bytes: &[u8],
 ) -> Option<usize>
-    ensures moved { Moved (facts_of T.settled T.refused T.floor T.SLACK) clients.old clients.new }
     ensures most { IfSome result (λ n. n ≤ length bytes.now) }
     ensures heard { IfSome result (λ n. Stepped (facts_of T.settled T.refused T.floor T.SLACK)
         (steps.Does who (Heard (take n bytes.now))) clients.old clients.new) }
+    ensures lost { IfNone result (Moved (facts_of T.settled T.refused T.floor T.SLACK) clients.old clients.new) }
 {
     let Ok(count) = clients.hear(who, bytes) else {
         return None;
@@ -109,6 +110,17 @@ pub(crate) fn execute<T: Timeline, M: Meter>(clients: &mut Clients<T>, meter: &m
     ensures { Moved (facts_of T.settled T.refused T.floor T.SLACK) clients.old clients.new }
 {
     let _progress = clients.execute(u64::MAX, meter);
+}
+
+/// What is not done is executed, by at most so many steps, which this meter counts; whether there was memory.
+pub(crate) fn execute_some<T: Timeline, M: Meter>(
+    clients: &mut Clients<T>,
+    most: u64,
+    meter: &mut M,
+) -> bool
+    ensures { Moved (facts_of T.settled T.refused T.floor T.SLACK) clients.old clients.new }
+{
+    clients.execute(most, meter).is_ok()
 }
 
 /// Shows what is released, where all is executed; whether it did.
@@ -170,7 +182,7 @@ pub(crate) fn changed<T: Timeline>(clients: &mut Clients<T>) -> Option<ClientId>
 
 /// The first so many bytes of a client's output were written.
 pub(crate) fn written<T: Timeline>(clients: &mut Clients<T>, who: ClientId, count: usize)
-    ensures { Moved (facts_of T.settled T.refused T.floor T.SLACK) clients.old clients.new }
+    ensures { MayWriteOf (facts_of T.settled T.refused T.floor T.SLACK) who count clients.old clients.new }
 {
     clients.written(who, count);
 }

@@ -1,12 +1,13 @@
 //! The peers of a host: what comes of their connections, their lines for the room, and its answers to these.
 
-ghost use Rattle.std.specs.Prelude.{◌≡◌};
+ghost use Rattle.std.specs.Prelude.{◌≡◌, ℕ};
 ghost use Rattle.warp_replica.specs.Answered.{facts_of};
-ghost use Rattle.warp_machine.specs.Moving.{Moved, clients_in};
+ghost use Rattle.warp_machine.specs.Moving.{HearsOf, IsPassing, MayWriteOf, MovedWith, clients_in};
 
 use crate::action::Action;
 use crate::machine::Machine;
 use crate::moves;
+use crate::operating::Level;
 use warp_clients::{ClientId, Clients};
 use warp_line::Timeline;
 use warp_service::{Note, Peer, PeerAction};
@@ -36,12 +37,12 @@ impl Followed {
         }
     }
 
-    /// Does what the moment brings; whether there was anything.
-    fn tick(&mut self, now: u64) -> bool {
+    /// Does what the moment brings, where the own log has had so many records for a while; whether there was anything.
+    fn tick(&mut self, now: u64, own: Option<u32>) -> bool {
         if self.peer.next_moment() > now {
             return false;
         }
-        self.peer.tick(now);
+        self.peer.tick(now, own);
         self.note();
         true
     }
@@ -66,6 +67,25 @@ impl Followed {
         let action = self.peer.next(now);
         self.is_wanting = action.is_some();
         action
+    }
+
+    /// The same as an action of the host, of which it has this number; but for notes that are not told at this level.
+    fn next_at(&mut self, level: Level, number: u16, now: u64) -> Option<Action> {
+        for _ in 0..MOST_TIMES {
+            let action = action_of(number, self.next(now)?);
+            if is_told(level, &action) {
+                return Some(action);
+            }
+        }
+        None
+    }
+}
+
+/// Whether this is no note, or one that is told at this level.
+fn is_told(level: Level, action: &Action) -> bool {
+    match action {
+        Action::Tell(note) => level.tells(note),
+        _ => true,
     }
 }
 
@@ -176,7 +196,7 @@ impl<T: Timeline> Machine<T> {
     /// Gives lines of peers to their clients, and takes the answers. Their records are not refused while the journal can't
     /// be written: they wait.
     pub(crate) fn go_on_with_peers(&mut self)
-        ensures { Moved (facts_of T.settled T.refused T.floor T.SLACK) self.old.clients self.new.clients }
+        ensures { MovedWith (facts_of T.settled T.refused T.floor T.SLACK) IsPassing self.old.clients self.new.clients }
     {
         if self.is_failing || !self.are_peers_due {
             return;
@@ -188,7 +208,7 @@ impl<T: Timeline> Machine<T> {
 
     /// Gives lines of a peer to its client, and takes the answers, where there are any.
     fn go_on(&mut self, at: usize)
-        ensures { Moved (facts_of T.settled T.refused T.floor T.SLACK) self.old.clients self.new.clients }
+        ensures { MovedWith (facts_of T.settled T.refused T.floor T.SLACK) IsPassing self.old.clients self.new.clients }
     {
         for _ in 0..MOST_TIMES {
             if !self.is_due(at) {
@@ -200,7 +220,7 @@ impl<T: Timeline> Machine<T> {
 
     /// Gives lines of a peer to its client, and takes the answers, once.
     fn go_on_once(&mut self, at: usize)
-        ensures { Moved (facts_of T.settled T.refused T.floor T.SLACK) self.old.clients self.new.clients }
+        ensures { MovedWith (facts_of T.settled T.refused T.floor T.SLACK) IsPassing self.old.clients self.new.clients }
     {
         let fed = self.feed_from(at);
         let heard = self.answer_peer(at);
@@ -226,7 +246,7 @@ impl<T: Timeline> Machine<T> {
 
     /// Gives lines of a peer to its client; whether it took any.
     fn feed_from(&mut self, at: usize) -> bool
-        ensures { Moved (facts_of T.settled T.refused T.floor T.SLACK) self.old.clients self.new.clients }
+        ensures { MovedWith (facts_of T.settled T.refused T.floor T.SLACK) IsPassing self.old.clients self.new.clients }
     {
         let Some(followed) = self.peers.get_mut(at) else {
             return false;
@@ -240,7 +260,7 @@ impl<T: Timeline> Machine<T> {
 
     /// Has a peer hear the room's answers; whether there were any.
     fn answer_peer(&mut self, at: usize) -> bool
-        ensures { Moved (facts_of T.settled T.refused T.floor T.SLACK) self.old.clients self.new.clients }
+        ensures { MovedWith (facts_of T.settled T.refused T.floor T.SLACK) IsPassing self.old.clients self.new.clients }
     {
         let Some(followed) = self.peers.get_mut(at) else {
             return false;
@@ -275,8 +295,7 @@ impl<T: Timeline> Machine<T> {
     {
         let number = u16::try_from(at).ok()?;
         let followed = self.peers.get_mut(at)?;
-        let action = followed.next(self.now)?;
-        Some(action_of(number, action))
+        followed.next_at(self.level, number, self.now)
     }
 
     /// Does what the moment brings for peers.
@@ -286,8 +305,16 @@ impl<T: Timeline> Machine<T> {
         if self.is_failing {
             return;
         }
+        let own = self.steady_len();
+        self.tick_each(own);
+    }
+
+    /// Does what the moment brings for each peer, where the log has had so many records for a while, if that is said.
+    fn tick_each(&mut self, own: Option<u32>)
+        ensures { self.new.clients ≡ self.old.clients }
+    {
         for followed in self.peers.iter_mut() {
-            self.are_peers_due |= followed.tick(self.now);
+            self.are_peers_due |= followed.tick(self.now, own);
         }
     }
 
@@ -318,7 +345,8 @@ impl<T: Timeline> Machine<T> {
 
 /// Gives lines of a peer to its client; whether it took any.
 fn feed<T: Timeline>(clients: &mut Clients<T>, followed: &mut Followed, now: u64) -> bool
-    ensures { Moved (facts_of T.settled T.refused T.floor T.SLACK) clients.old clients.new }
+    ensures { HearsOf (facts_of T.settled T.refused T.floor T.SLACK) followed.old.who followed.old.peer.handed
+        clients.old clients.new }
 {
     let Some(count) = moves::hear(clients, followed.who, followed.peer.lines()) else {
         return false;
@@ -332,7 +360,8 @@ fn feed<T: Timeline>(clients: &mut Clients<T>, followed: &mut Followed, now: u64
 
 /// Has a peer hear the room's answers; whether there were any.
 fn answer<T: Timeline>(clients: &mut Clients<T>, followed: &mut Followed, now: u64) -> bool
-    ensures { Moved (facts_of T.settled T.refused T.floor T.SLACK) clients.old clients.new }
+    ensures { (count : ℕ) × MayWriteOf (facts_of T.settled T.refused T.floor T.SLACK) followed.old.who count
+        clients.old clients.new }
 {
     let count = followed.peer.answers(clients.output(followed.who), now);
     if count == 0 {

@@ -291,8 +291,25 @@ impl<T: Timeline> Machine<T> {
         moves::stop(&mut self.clients, who);
     }
 
-    /// Pushes how many lines of steps were left out for a client, where some were and not much waits for it.
+    /// A client reads on: what was left out for it meanwhile is pushed, the newest values in the next turn.
     pub(crate) fn push_skipped(&mut self, who: ClientId)
+        ensures { Moved (facts_of T.settled T.refused T.floor T.SLACK) self.old.clients self.new.clients }
+    {
+        self.tell_values_again(who);
+        self.push_skipped_steps(who);
+    }
+
+    /// Notes that the newest values are due again that a client watches and was not pushed, where it has read enough.
+    fn tell_values_again(&mut self, who: ClientId)
+        ensures { self.new.clients ≡ self.old.clients }
+    {
+        let unread = self.clients.unread(who);
+        let are_due = self.watchers.read_on(who, unread);
+        self.has_more |= are_due;
+    }
+
+    /// Pushes how many lines of steps were left out for a client, where some were and not much waits for it.
+    fn push_skipped_steps(&mut self, who: ClientId)
         ensures { Moved (facts_of T.settled T.refused T.floor T.SLACK) self.old.clients self.new.clients }
     {
         if !self.watchers.are_steps_watched() {

@@ -83,6 +83,8 @@ impl<T: Timeline> Machine<T> {
         }
         let back = P::last_done(self.clients.room().replica().timeline());
         moves::execute(&mut self.clients, notes);
+        let front = P::last_done(self.clients.room().replica().timeline());
+        self.note_rows(front, notes.again());
         let len = self.clients.room().len();
         self.keep_noted(len, room > 0, back, notes);
         Worked::More

@@ -1,7 +1,8 @@
 //! A turn: lines are heard, the room works, and what may be told is.
 ghost use Rattle.std.specs.Prelude.{◌≡◌};
 ghost use Rattle.warp_replica.specs.Answered.{facts_of};
-ghost use Rattle.warp_machine.specs.Moving.{Moved, clients_in};
+ghost use Rattle.warp_machine.specs.Keeping.{HearsKept, keepings};
+ghost use Rattle.warp_machine.specs.Moving.{IsHearing, IsPassing, Moved, MovedWith, clients_in};
 
 use crate::conn::Want;
 use crate::conns::Conns;
@@ -30,7 +31,7 @@ impl<T: Timeline> Machine<T> {
     /// Hears lines of clients, has the room work for a while, and hands on what may be told. Whether there is more to do
     /// at once.
     pub fn turn<P: LastDone<T>>(&mut self, now: u64) -> bool
-        ensures { Moved (facts_of T.settled T.refused T.floor T.SLACK)
+        ensures { MovedWith (facts_of T.settled T.refused T.floor T.SLACK) IsPassing
             (clients_in self.old) (clients_in self.new) }
     {
         if self.is_over {
@@ -45,7 +46,7 @@ impl<T: Timeline> Machine<T> {
 
     /// Hears lines of clients.
     fn begin_turn(&mut self, now: u64)
-        ensures { Moved (facts_of T.settled T.refused T.floor T.SLACK) self.old.clients self.new.clients }
+        ensures { MovedWith (facts_of T.settled T.refused T.floor T.SLACK) IsHearing self.old.clients self.new.clients }
     {
         self.time_answers();
         self.now = now;
@@ -57,13 +58,14 @@ impl<T: Timeline> Machine<T> {
 
     /// Hands on what may be told, behind the room's work.
     fn hand_on(&mut self, worked: Worked)
-        ensures { Moved (facts_of T.settled T.refused T.floor T.SLACK) self.old.clients self.new.clients }
+        ensures { MovedWith (facts_of T.settled T.refused T.floor T.SLACK) IsPassing self.old.clients self.new.clients }
     {
         moves::hand(&mut self.clients);
         self.note_watched();
         self.hand_steps();
         self.tell_if_due(worked);
         self.go_on_with_peers();
+        self.compare_peers();
         self.look_at_changes();
     }
 
@@ -83,11 +85,14 @@ impl<T: Timeline> Machine<T> {
     {
         let replies = self.clients.counts().replies;
         self.is_untimed = true;
-        self.has_more |= match worked {
+        let has_more = match worked {
             Worked::Idle => false,
             Worked::More => true,
             Worked::Held | Worked::NoMemory => replies != before,
         };
+        self.has_more |= has_more || self.clients.is_counting();
+        self.note_shares(worked);
+        self.conns.keep_places(self.options.most_clients);
         self.look_at_end();
         self.is_busy()
     }
@@ -123,19 +128,20 @@ impl<T: Timeline> Machine<T> {
 
     /// Asks each client what it says that may say something.
     fn hear_all(&mut self)
-        ensures { Moved (facts_of T.settled T.refused T.floor T.SLACK) self.old.clients self.new.clients }
+        ensures { MovedWith (facts_of T.settled T.refused T.floor T.SLACK) IsHearing self.old.clients self.new.clients }
     {
         for _ in 0..self.conns.talking() {
             let Some(who) = self.conns.next_talking() else {
                 return;
             };
-            self.say(who);
+            self.hear_one(who);
         }
     }
 
     /// Asks a client what it says, and does it.
     pub(crate) fn say(&mut self, who: ClientId)
-        ensures { Moved (facts_of T.settled T.refused T.floor T.SLACK) self.old.clients self.new.clients }
+        ensures { HearsKept (facts_of T.settled T.refused T.floor T.SLACK) (keepings self.old.conns) who
+            self.old.clients self.new.clients }
     {
         if self.is_failing && self.conns.peer(who).is_some() {
             // Its records are not refused: they wait.
@@ -171,13 +177,15 @@ impl<T: Timeline> Machine<T> {
         let has_answered = self.pages.answered() != before;
         self.conns
             .note_visit(who, self.pages.visit(), has_answered, self.now);
+        self.note_token(who);
         more
     }
 
     /// Gives a client the bytes that wait for it, as far as it has room, and tells it where no more come. Whether it took
     /// some, and may take more.
     fn feed(&mut self, who: ClientId) -> bool
-        ensures { Moved (facts_of T.settled T.refused T.floor T.SLACK) self.old.clients self.new.clients }
+        ensures { HearsKept (facts_of T.settled T.refused T.floor T.SLACK) (keepings self.old.conns) who
+            self.old.clients self.new.clients }
     {
         let Some(count) = hear_rest(&mut self.clients, &self.conns, who) else {
             return false;
@@ -318,7 +326,7 @@ impl<T: Timeline> Machine<T> {
     pub(crate) fn execute(&mut self) -> bool
         ensures { Moved (facts_of T.settled T.refused T.floor T.SLACK) self.old.clients self.new.clients }
     {
-        if moves::work(&mut self.clients, 0, MOST_STEPS) == Worked::NoMemory {
+        if !self.make_steps(MOST_STEPS) {
             return false;
         }
         if !self.clients.room().is_settled() {
@@ -354,7 +362,7 @@ impl<T: Timeline> Machine<T> {
 
 /// A client hears the bytes that wait for it, as far as it has room: how many. `None` where its connection is lost.
 fn hear_rest<T: Timeline>(clients: &mut Clients<T>, conns: &Conns, who: ClientId) -> Option<usize>
-    ensures { Moved (facts_of T.settled T.refused T.floor T.SLACK) clients.old clients.new }
+    ensures { HearsKept (facts_of T.settled T.refused T.floor T.SLACK) (keepings conns.now) who clients.old clients.new }
 {
     let Some(rest) = conns.rest(who) else {
         return None;

@@ -1,5 +1,7 @@
 //! How long lines take.
 
+ghost use Rattle.std.specs.Prelude.{◌≡◌, max};
+
 use std::alloc::Global;
 use std::collections::VecDeque;
 
@@ -8,11 +10,13 @@ pub(crate) const BOUNDS: [u64; 12] = [
     100, 250, 500, 1_000, 2_500, 5_000, 10_000, 25_000, 100_000, 500_000, 1_000_000, 5_000_000,
 ];
 
-/// How many lines took at most so long, each by its least bound, and what all took together.
+/// How many lines took at most so long, each by its least bound, what all took together, and what one took at most.
 #[derive(Clone, Copy)]
 pub struct Histogram {
     pub(crate) counts: [u64; 13],
     pub(crate) micros: u64,
+    /// What the line took that took longest.
+    pub(crate) longest: u64,
 }
 
 impl Histogram {
@@ -21,16 +25,20 @@ impl Histogram {
         Histogram {
             counts: [0; 13],
             micros: 0,
+            longest: 0,
         }
     }
 
     /// So many lines took so long.
-    fn note(&mut self, lines: u64, took: u64) {
+    fn note(&mut self, lines: u64, took: u64)
+        ensures { self.new.longest ≡ max self.old.longest took }
+    {
         let place = place_of(took);
         if place < self.counts.len() {
             self.counts[place] = self.counts[place].wrapping_add(lines);
         }
         self.micros = self.micros.saturating_add(took.saturating_mul(lines));
+        self.longest = self.longest.max(took);
     }
 }
 
@@ -78,6 +86,14 @@ impl Stopwatch {
     /// What was measured.
     pub fn histogram(&self) -> Histogram {
         self.histogram
+    }
+
+    /// For how long the oldest line waits now that has no answer.
+    pub fn waits(&self, now: u64) -> u64 {
+        match self.waiting.front() {
+            Some(first) => now.saturating_sub(first.at),
+            None => 0,
+        }
     }
 
     /// So many lines were taken in all by now.

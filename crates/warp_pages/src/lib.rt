@@ -8,8 +8,10 @@ mod names;
 mod page;
 mod pages;
 mod query;
+mod ready;
 
 pub use histogram::{Histogram, Stopwatch};
 pub use metrics::Seen;
 pub use names::Names;
 pub use pages::{Pages, Texts, Visit};
+pub use ready::Lacks;

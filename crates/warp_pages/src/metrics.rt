@@ -3,10 +3,28 @@
 use crate::histogram::{BOUNDS, Histogram};
 use itoa::Buffer;
 use std::alloc::{AllocError, Global};
+use std::slice;
+use warp_clients::{MOST_REFUSALS, Refusals};
+
+/// Whether the program was proved. What `.ci/unproved` builds has the other word here.
+const IS_PROVED: bool = true;
+
+/// How far a host is behind a peer, and whether they differ.
+#[derive(Drop)]
+pub(crate) struct PeerSeen {
+    /// The peer's name, as it was given.
+    pub(crate) name: String,
+    /// So many records it is known to have that were not taken.
+    pub(crate) behind: u32,
+    /// It was found to have other records, as many of them.
+    pub(crate) differs: bool,
+}
 
 /// What is measured of a host, as it is at some moment.
 #[derive(Clone, Copy)]
 pub struct Seen {
+    /// The version of the program.
+    pub version: &'static str,
     /// Connections of clients.
     pub clients: u64,
     /// The most of them at a time.
@@ -17,22 +35,28 @@ pub struct Seen {
     pub replies: u64,
     /// Pieces that were pushed to who watches.
     pub pushes: u64,
-    /// Lines that the host itself refused.
-    pub refused: u64,
+    /// Refusals among the replies, by their numbers.
+    pub refusals: Refusals,
     /// Records of the log.
     pub log: u64,
     /// The most of them.
     pub most_records: u64,
+    /// Records of the log that may not be told yet.
+    pub untold: u64,
     /// The time of the horizon.
     pub horizon_time: u64,
     /// The microstep of the horizon.
     pub horizon_microstep: u64,
+    /// Rows that were executed though a later one had been.
+    pub rows_again: u64,
     /// Peers to follow.
     pub peers: u64,
     /// Those that are followed now.
     pub peers_connected: u64,
     /// Connections that were refused.
     pub clients_refused: u64,
+    /// Connections that were closed since they had brought no token.
+    pub tokenless: u64,
     /// Requests that brought no token, or a wrong one, where one is wanted.
     pub unauthorized: u64,
     /// Requests of a page, or to a name, that is not allowed.
@@ -45,33 +69,40 @@ pub struct Seen {
     pub journal_waits: u64,
     /// Whether the journal cannot be written: 1.
     pub journal_failing: u64,
+    /// For how many microseconds the oldest line waits that has no answer.
+    pub waits: u64,
     /// How long lines took.
     pub histogram: Histogram,
 }
 
 impl Seen {
-    /// Nothing happened yet, where there may be so many clients and records.
-    pub fn nothing(most_clients: u64, most_records: u64) -> Seen {
+    /// Nothing happened yet in a program of this version, where there may be so many clients and records.
+    pub fn nothing(version: &'static str, most_clients: u64, most_records: u64) -> Seen {
         Seen {
+            version,
             clients: 0,
             most_clients,
             lines: 0,
             replies: 0,
             pushes: 0,
-            refused: 0,
+            refusals: Refusals::NONE,
             log: 0,
             most_records,
+            untold: 0,
             horizon_time: 0,
             horizon_microstep: 0,
+            rows_again: 0,
             peers: 0,
             peers_connected: 0,
             clients_refused: 0,
+            tokenless: 0,
             unauthorized: 0,
             forbidden: 0,
             journal_records: 0,
             journal_unsynced: 0,
             journal_waits: 0,
             journal_failing: 0,
+            waits: 0,
             histogram: Histogram::new(),
         }
     }
@@ -189,6 +220,12 @@ fn traffic(seen: &Seen) -> [Row<'static>; 9] {
             seen.clients_refused,
         ),
         number(
+            b"warpd_clients_tokenless_total",
+            COUNTER,
+            b"Connections that were closed since they had brought no token in time.",
+            seen.tokenless,
+        ),
+        number(
             b"warpd_lines_total",
             COUNTER,
             b"Lines that were taken of clients.",
@@ -207,12 +244,6 @@ fn traffic(seen: &Seen) -> [Row<'static>; 9] {
             seen.pushes,
         ),
         number(
-            b"warpd_refused_total",
-            COUNTER,
-            b"Lines that the host itself refused, before its replica.",
-            seen.refused,
-        ),
-        number(
             b"warpd_http_unauthorized_total",
             COUNTER,
             b"Requests over HTTP that brought no token, or a wrong one, where one is wanted.",
@@ -228,7 +259,7 @@ fn traffic(seen: &Seen) -> [Row<'static>; 9] {
 }
 
 /// The numbers of the replica and of peers.
-fn state(seen: &Seen) -> [Row<'static>; 6] {
+fn state(seen: &Seen) -> [Row<'static>; 8] {
     [
         number(
             b"warpd_log_records",
@@ -243,6 +274,12 @@ fn state(seen: &Seen) -> [Row<'static>; 6] {
             seen.most_records,
         ),
         number(
+            b"warpd_log_untold_records",
+            GAUGE,
+            b"Records of the log that nobody may be told of yet: they wait for the journal.",
+            seen.untold,
+        ),
+        number(
             b"warpd_horizon_time",
             GAUGE,
             b"The time of the horizon.",
@@ -253,6 +290,12 @@ fn state(seen: &Seen) -> [Row<'static>; 6] {
             GAUGE,
             b"The microstep of the horizon.",
             seen.horizon_microstep,
+        ),
+        number(
+            b"warpd_rows_again_total",
+            COUNTER,
+            b"Rows that were executed though a later one had been executed before.",
+            seen.rows_again,
         ),
         number(b"warpd_peers", GAUGE, b"Peers to follow.", seen.peers),
         number(
@@ -288,36 +331,156 @@ fn journal(seen: &Seen) -> [Row<'static>; 3] {
     ]
 }
 
-/// Writes for how long the oldest record waits that is not on the disk.
-fn write_waits(text: &mut Vec<u8>, millis: u64) -> Result<(), AllocError> {
-    write_head(
-        text,
-        b"warpd_journal_unsynced_seconds",
-        GAUGE,
-        b"How long the oldest record waits that is not on the disk.",
-    )?;
-    text.extend_from_slice(b"warpd_journal_unsynced_seconds ")?;
-    write_seconds(text, millis.saturating_mul(1_000))?;
+/// Writes a time with its head: it is so many microseconds.
+fn write_time(text: &mut Vec<u8>, name: &[u8], help: &[u8], micros: u64) -> Result<(), AllocError> {
+    write_head(text, name, GAUGE, help)?;
+    text.extend_from_slice(name)?;
+    text.extend_from_slice(b" ")?;
+    write_seconds(text, micros)?;
     text.extend_from_slice(b"\n")
 }
 
+/// Writes what runs.
+fn write_build(text: &mut Vec<u8>, version: &str) -> Result<(), AllocError> {
+    write_head(
+        text,
+        b"warpd_build_info",
+        GAUGE,
+        b"What runs: its version, and whether it was proved.",
+    )?;
+    text.extend_from_slice(b"warpd_build_info{version=\"")?;
+    write_label(text, version)?;
+    let proved: &[u8] = if IS_PROVED { b"true" } else { b"false" };
+    text.extend_from_slice(b"\",proved=\"")?;
+    text.extend_from_slice(proved)?;
+    write_value(text, b"\"}", 1)
+}
+
+/// Writes the value of a label.
+fn write_label(text: &mut Vec<u8>, value: &str) -> Result<(), AllocError> {
+    for byte in value.as_bytes() {
+        let shown: &[u8] = match *byte {
+            b'\\' => b"\\\\",
+            b'"' => b"\\\"",
+            b'\n' => b"\\n",
+            _ => slice::from_ref(byte),
+        };
+        text.extend_from_slice(shown)?;
+    }
+    Ok(())
+}
+
+/// Writes how many lines were refused, by the number of the refusal; none of a number that did not occur, and nothing where none did.
+fn write_refusals(text: &mut Vec<u8>, refusals: &Refusals) -> Result<(), AllocError> {
+    if refusals.are_none() {
+        return Ok(());
+    }
+    write_head(
+        text,
+        b"warpd_refused_total",
+        COUNTER,
+        b"Replies that refused a line, by the number of the refusal.",
+    )?;
+    for number in 1..MOST_REFUSALS {
+        let count = refusals.of(number);
+        if count > 0 {
+            write_refused(text, number as u64, count)?;
+        }
+    }
+    Ok(())
+}
+
+/// Writes how many lines were refused by this number.
+fn write_refused(text: &mut Vec<u8>, number: u64, count: u64) -> Result<(), AllocError> {
+    let mut digits = Buffer::new();
+    text.extend_from_slice(b"warpd_refused_total{number=\"")?;
+    text.extend_from_slice(digits.format(number).as_bytes())?;
+    write_value(text, b"\"}", count)
+}
+
+/// Writes how far the host is behind each peer, and which of them differ; nothing where it has none.
+fn write_peers(text: &mut Vec<u8>, peers: &[PeerSeen]) -> Result<(), AllocError> {
+    if peers.is_empty() {
+        return Ok(());
+    }
+    write_head(
+        text,
+        b"warpd_peer_lag_records",
+        GAUGE,
+        b"Records that a peer is known to have and that were not taken yet: it may have more.",
+    )?;
+    for peer in peers {
+        let behind = u64::from(peer.behind);
+        write_of_peer(text, b"warpd_peer_lag_records", peer, behind)?;
+    }
+    write_head(
+        text,
+        b"warpd_peer_differs",
+        GAUGE,
+        b"Whether a peer was found to have other records, as many of them: 1.",
+    )?;
+    for peer in peers {
+        let differs = u64::from(peer.differs);
+        write_of_peer(text, b"warpd_peer_differs", peer, differs)?;
+    }
+    Ok(())
+}
+
+/// Writes a number of a peer.
+fn write_of_peer(
+    text: &mut Vec<u8>,
+    name: &[u8],
+    peer: &PeerSeen,
+    value: u64,
+) -> Result<(), AllocError> {
+    text.extend_from_slice(name)?;
+    text.extend_from_slice(b"{peer=\"")?;
+    write_label(text, peer.name.as_str())?;
+    write_value(text, b"\"}", value)
+}
+
+/// Writes how long answers took at most, and how long the oldest line waits for one.
+fn write_longest(text: &mut Vec<u8>, seen: &Seen) -> Result<(), AllocError> {
+    write_time(
+        text,
+        b"warpd_line_longest_seconds",
+        b"The longest that a line took from its taking to its answer, since the host began.",
+        seen.histogram.longest,
+    )?;
+    write_time(
+        text,
+        b"warpd_line_waiting_seconds",
+        b"How long the oldest line waits that has no answer yet.",
+        seen.waits,
+    )
+}
+
 /// All that is measured, in the text format of Prometheus.
-pub(crate) fn metrics_text(alloc: Global, seen: &Seen) -> Result<Vec<u8>, AllocError> {
+pub(crate) fn metrics_text(
+    alloc: Global,
+    seen: &Seen,
+    peers: &[PeerSeen],
+) -> Result<Vec<u8>, AllocError> {
     let mut text = Vec::new(alloc);
+    write_build(&mut text, seen.version)?;
     for row in &traffic(seen) {
         write_row(&mut text, row)?;
     }
+    write_refusals(&mut text, &seen.refusals)?;
     for row in &state(seen) {
         write_row(&mut text, row)?;
     }
+    write_peers(&mut text, peers)?;
     for row in &journal(seen) {
         write_row(&mut text, row)?;
     }
-    write_waits(&mut text, seen.journal_waits)?;
-    text.extend_from_slice(NOT_TOLD)?;
+    write_time(
+        &mut text,
+        b"warpd_journal_unsynced_seconds",
+        b"How long the oldest record waits that is not on the disk.",
+        seen.journal_waits.saturating_mul(1_000),
+    )?;
+    write_longest(&mut text, seen)?;
     write_histogram(&mut text, &seen.histogram)?;
     Ok(text)
 }
-
-/// What the replica doesn't tell.
-const NOT_TOLD: &[u8] = b"# Rollbacks and rows executed again are not counted.\n";

@@ -5,7 +5,7 @@ use http::HeaderValue;
 /// What the page may do in a browser: its own style and script alone, told by their SHA-256, and connect to its host.
 const POLICY: &str = "\
 default-src 'none'; \
-script-src 'sha256-rAO98Kvhy7IzcsMkNFPhzcWU3MnCqBRl5fFHRVv2dWU='; \
+script-src 'sha256-QdUXZyE/owLmUjSqgrVdirTqCWBp94ZJvgumCzdYXzE='; \
 style-src 'sha256-w6wrpSjQQo2ITNrYMfX6Z7+uynafgFVJ8u9XhCCqJFo='; \
 connect-src 'self'; \
 img-src data:; \
@@ -233,7 +233,7 @@ const PARTS={
 log:within(1e7),place:within(1e7,1),events:within(1e7),withdrawn:within(1e7),rows:within(2 ** 20),watched:within(6),
 origin:within(63),input:within(63),output:within(63),time:within(15_625_000),micro:within(255),index:within(2 ** 32 - 1),
 count:within(Number.MAX_SAFE_INTEGER),number:within(99,1),value:integer,frozen:flag,broken:flag,
-version: within(99, 1), fingerprint: matching(/^[0-9a-f]{64}$/),
+version: within(99, 1), fingerprint: matching(/^[0-9a-f]{64}$/), digits: matching(/^[0-9a-f]{32}$/),
 }
 function fields(form){
 const parts = (form.match(/\S+/g) ?? []).map(it => it.split(":"))
@@ -298,6 +298,7 @@ const{time,micro,...counts}=COUNTS(words)
 return{...counts,last:{time,micro}}
 },
 reached:fields("log origin time micro"),
+digest:fields("log digits"),
 }
 const ANSWERS={
 event:"taken known",withdraw:"taken known",announce:"taken known",collect:"collected",watch:"watching",unwatch:"watching",
@@ -1166,8 +1167,7 @@ breach:it=>replica.takeBreach(it),
 function connect(){
 if(client)client.onstate=null
 client?.close()
-const scheme=location.protocol==="https:"?"wss:":"ws:"
-const made = new Client(`${scheme}//${location.host}/ws`, { token })
+const made=new Client(new URL("ws",location).href.replace("http","ws"),{token})
 const start=()=>made===client&&begin().catch(()=>{})
 made.onstate=turn
 made.ready.then(start,()=>{})
@@ -1202,9 +1202,9 @@ touch()
 const rightsText = ({ may }) => ({ "*": "all origins", read: "none, it may only read" })[may] ?? `origins ${may}`
 async function readLimits(){
 const headers = token === undefined ? {} : { Authorization: `Bearer ${token}` }
-const metrics = await (await fetch("/metrics", { headers })).text()
+const metrics=await(await fetch("metrics",{headers})).text()
 limits.log = /^warpd_log_records_limit (\d+)/m.exec(metrics)?.[1] ?? ""
-const file = await (await fetch("/program.json", { headers })).json()
+const file=await(await fetch("program.json",{headers})).json()
 limits.origins=Number(file.origins)||0
 choose("origin", originsNow().map(origin => [origin, `${origin}`]))
 touch()

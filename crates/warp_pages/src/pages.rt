@@ -1,15 +1,16 @@
 //! What is answered over HTTP, and the way to WebSocket.
 
-use crate::metrics::{Seen, metrics_text};
+use crate::metrics::{PeerSeen, Seen, metrics_text};
 use crate::names::Names;
 use crate::page::{page, policy};
 use crate::query::token_of;
+use crate::ready::Lacks;
 use bytes::Bytes;
 use http::{HeaderMap, HeaderName, HeaderValue, Method, Request, StatusCode, Version};
 use http_server::{Response, Service};
 use std::alloc::{AllocError, Global};
 use warp_clients::{Answers, Visits};
-use warp_hub::{Rights, Tokens};
+use warp_hub::{Rights, Tokens, digest_of};
 use websocket::handshake::server::accept_key;
 
 const HTML: &str = "text/html; charset=utf-8";
@@ -34,8 +35,15 @@ const MOST_GUESSES: u32 = 3;
 pub struct Visit {
     /// How many of them wanted a token, and brought none or a wrong one.
     guesses: u32,
-    /// The rights of the token that its request for WebSocket brought, if it brought one.
-    rights: Option<Rights>,
+    /// The token that its request for WebSocket brought, or else the last that a request brought, if one did.
+    brought: Option<Brought>,
+}
+
+/// A token that a request brought.
+#[derive(Clone, Copy)]
+struct Brought {
+    digest: [u8; 32],
+    rights: Rights,
 }
 
 impl Visit {
@@ -43,8 +51,14 @@ impl Visit {
     pub fn new() -> Visit {
         Visit {
             guesses: 0,
-            rights: None,
+            brought: None,
         }
+    }
+
+    /// The digest of the token that its request for WebSocket brought, or before that of the last that a request brought.
+    pub fn token(&self) -> Option<[u8; 32]> {
+        let brought = self.brought?;
+        Some(brought.digest)
     }
 }
 
@@ -57,6 +71,10 @@ pub struct Pages {
     program: Bytes,
     names_json: Bytes,
     seen: Seen,
+    /// How far the host is behind its peers.
+    peers: Vec<PeerSeen>,
+    /// What keeps the host from being ready.
+    lacks: Lacks,
     /// The connection that is served.
     visit: Visit,
     /// How many requests were answered.
@@ -85,8 +103,8 @@ pub struct Texts {
 enum Answered {
     /// Nothing.
     Plain,
-    /// The connection is upgraded, with the rights of the token that it brought, if it brought one.
-    Upgraded(Option<Rights>),
+    /// The connection is upgraded, with the token that it brought, if it brought one.
+    Upgraded(Option<Brought>),
 }
 
 /// What is asked for.
@@ -94,6 +112,7 @@ enum Answered {
 enum Place {
     Page,
     Health,
+    Ready,
     Web,
     Program,
     Names,
@@ -106,6 +125,7 @@ fn place_of(path: &str) -> Place {
     match path {
         "/" => Place::Page,
         "/healthz" => Place::Health,
+        "/readyz" => Place::Ready,
         "/ws" => Place::Web,
         "/program.json" => Place::Program,
         "/names.json" => Place::Names,
@@ -235,6 +255,8 @@ impl Pages {
             program: Bytes::from_vec(program)?,
             names_json: Bytes::from_vec(names_json)?,
             seen,
+            peers: Vec::new(alloc),
+            lacks: Lacks::nothing(),
             visit: Visit::new(),
             answered: 0,
             unauthorized: 0,
@@ -245,6 +267,31 @@ impl Pages {
     /// This is measured from now on.
     pub fn see(&mut self, seen: Seen) {
         self.seen = seen;
+    }
+
+    /// This keeps the host from being ready from now on.
+    pub fn lack(&mut self, lacks: Lacks) {
+        self.lacks = lacks;
+    }
+
+    /// One more peer is followed, which has this name: what is measured has a row of it from now on.
+    pub fn name_peer(&mut self, name: &str) -> Result<(), AllocError> {
+        let name = String::from_str(self.alloc, name)?;
+        self.peers.push(PeerSeen {
+            name,
+            behind: 0,
+            differs: false,
+        })?;
+        Ok(())
+    }
+
+    /// The peer that was named behind so many others is known to have so many records more than were taken, and differs or
+    /// not.
+    pub fn see_peer(&mut self, place: usize, behind: u32, differs: bool) {
+        if let Some(peer) = self.peers.get_mut(place) {
+            peer.behind = behind;
+            peer.differs = differs;
+        }
     }
 
     /// The connection of which this is known is served from now on.
@@ -297,9 +344,26 @@ impl Pages {
         }
     }
 
-    /// The rights of this token; `None` where there is no such token.
-    fn rights_of(&self, token: &[u8]) -> Option<Rights> {
-        self.tokens.as_ref()?.find(token)
+    /// What may be sent with the token of this digest; `None` where there is none.
+    pub fn find_digest(&self, digest: &[u8; 32]) -> Option<Rights> {
+        self.tokens.as_ref()?.find_digest(digest)
+    }
+
+    /// These are the tokens from now on.
+    pub fn take_tokens(&mut self, tokens: Tokens) {
+        self.tokens = Some(tokens);
+    }
+
+    /// This token, where there is such a one.
+    fn brought(&self, token: &[u8]) -> Option<Brought> {
+        let digest = digest_of(token);
+        let rights = self.find_digest(&digest)?;
+        Some(Brought { digest, rights })
+    }
+
+    /// Notes the token that a request brought, if it brought one that there is.
+    fn note_brought(&mut self, request: &Request<Bytes>) {
+        self.visit.brought = self.bearer(request).or(self.visit.brought);
     }
 
     /// Whether the request may have what only those with a token may have.
@@ -307,29 +371,29 @@ impl Pages {
         self.tokens.is_none() || self.bearer(request).is_some()
     }
 
-    /// The rights of the token that the request's `Authorization` has.
-    fn bearer(&self, request: &Request<Bytes>) -> Option<Rights> {
+    /// The token that the request's `Authorization` has.
+    fn bearer(&self, request: &Request<Bytes>) -> Option<Brought> {
         let value = request.headers().get("authorization")?;
         let text = value.to_str().ok()?;
-        self.rights_of(text.strip_prefix("Bearer ")?.as_bytes())
+        self.brought(text.strip_prefix("Bearer ")?.as_bytes())
     }
 
-    /// The rights of the token that a request for an upgrade brings: `Ok(None)` where it brings none.
-    fn web_rights(&self, request: &Request<Bytes>) -> Result<Option<Rights>, StatusCode> {
+    /// The token that a request for an upgrade brings: `Ok(None)` where it brings none.
+    fn web_token(&self, request: &Request<Bytes>) -> Result<Option<Brought>, StatusCode> {
         if self.tokens.is_none() {
             return Ok(None);
         }
         if request.headers().contains_key("authorization") {
             return match self.bearer(request) {
-                Some(rights) => Ok(Some(rights)),
+                Some(brought) => Ok(Some(brought)),
                 None => Err(StatusCode::UNAUTHORIZED),
             };
         }
         let Some(token) = token_of(request.uri().query().unwrap_or("").as_bytes()) else {
             return Ok(None);
         };
-        match self.rights_of(token.as_slice()) {
-            Some(rights) => Ok(Some(rights)),
+        match self.brought(token.as_slice()) {
+            Some(brought) => Ok(Some(brought)),
             None => Err(StatusCode::UNAUTHORIZED),
         }
     }
@@ -350,13 +414,26 @@ impl Pages {
         let Some(accept) = accept_of(headers) else {
             return Ok(refuse(response, StatusCode::BAD_REQUEST));
         };
-        match self.web_rights(request) {
-            Ok(rights) => {
+        match self.web_token(request) {
+            Ok(brought) => {
                 accept_upgrade(self.alloc, response, &accept)?;
-                Ok(Answered::Upgraded(rights))
+                Ok(Answered::Upgraded(brought))
             }
             Err(status) => Ok(refuse(response, status)),
         }
+    }
+
+    /// Fills the answer whether the host is ready.
+    fn fill_ready(&self, response: &mut Response) -> Result<Answered, AllocError> {
+        let text = self.lacks.text(self.alloc, &self.peers)?;
+        if self.lacks.status() != StatusCode::OK.as_u16() {
+            refuse(response, StatusCode::SERVICE_UNAVAILABLE);
+        }
+        fill(
+            response,
+            HeaderValue::from_static(PLAIN),
+            Bytes::from_vec(text)?,
+        )
     }
 
     /// Fills the answer to a request for this place.
@@ -373,6 +450,7 @@ impl Pages {
                 HeaderValue::from_static(PLAIN),
                 Bytes::from_static(b"ok\n"),
             ),
+            Place::Ready => self.fill_ready(response),
             Place::Web => self.upgrade(request, response),
             Place::Program => fill(
                 response,
@@ -385,7 +463,7 @@ impl Pages {
                 self.names_json.clone()?,
             ),
             Place::Metrics => {
-                let text = metrics_text(self.alloc, &self.seen)?;
+                let text = metrics_text(self.alloc, &self.seen, &self.peers)?;
                 fill(
                     response,
                     HeaderValue::from_static(METRICS),
@@ -416,7 +494,10 @@ impl Pages {
             );
         }
         let place = place_of(request.uri().path());
-        let is_open = matches!(place, Place::Page | Place::Health | Place::Web);
+        let is_open = matches!(
+            place,
+            Place::Page | Place::Health | Place::Ready | Place::Web
+        );
         if !is_open && !self.is_known(request) {
             refuse(response, StatusCode::UNAUTHORIZED);
             return add_last(
@@ -488,8 +569,9 @@ impl Service for Pages {
             Ok(answered) => {
                 self.answered = self.answered.wrapping_add(1);
                 self.count(response.status.as_u16());
-                if let Answered::Upgraded(rights) = answered {
-                    self.visit.rights = rights;
+                self.note_brought(request);
+                if let Answered::Upgraded(brought) = answered {
+                    self.visit.brought = brought;
                 }
                 Ok(())
             }
@@ -506,6 +588,7 @@ impl Answers for Pages {
 
 impl Visits for Pages {
     fn rights(&self) -> Option<Rights> {
-        self.visit.rights
+        let brought = self.visit.brought?;
+        Some(brought.rights)
     }
 }

@@ -1,2 +1,3 @@
+mod LinesBehind
 mod Placing
 mod Pushed

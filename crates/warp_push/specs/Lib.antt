@@ -1,4 +1,5 @@
 pub mod Marks
+pub mod Noted
 pub mod Pages
 pub mod Pushings
 pub mod Seats

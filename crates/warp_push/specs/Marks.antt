@@ -1,5 +1,5 @@
 -- What news give a watcher, and where it goes on behind them.
-use Rattle.std.specs.Prelude.{◌≡◌, ℕ, ◌==◌, Bool, true, false, not, ◌&&◌, Option, Some, None, if◌then◌else◌}
+use Rattle.std.specs.Prelude.{ℕ, ◌==◌, ◌+◌, ◌-◌, ◌^◌, min, Bool, true, false, not, ◌&&◌, nat_lt, Option, Some, None, if◌then◌else◌}
 use Rattle.warp_hub.specs.declared.words.Subject.{Subject}
 use Rattle.warp_hub.specs.declared.words.Subject.TheVariants as subject
 use Rattle.warp_hub.specs.declared.words.Watch.{Watch}
@@ -7,8 +7,10 @@ use Rattle.warp_hub.specs.declared.words.Watch.TheVariants as watch
 use Rattle.warp_push.specs.declared.marks.Cursor.{Cursor}
 use Rattle.warp_push.specs.declared.marks.Given.{Given}
 use Rattle.warp_push.specs.declared.marks.Marks.{Marks}
+use Rattle.warp_push.specs.declared.marks.Newest.{Newest}
 use Rattle.warp_push.specs.declared.marks.News.{News}
 use Rattle.warp_push.specs.declared.marks.News.TheVariants as news
+use Rattle.warp_push.specs.declared.marks.Unpushed.{Unpushed}
 use Rattle.warp_push.specs.Pages.{Span, cursor_behind, given_of}
 
 -- it gets nothing; it gets the whole text
@@ -46,24 +48,72 @@ abbrev pub page_behind : News → Option Cursor → Option Cursor
 page_behind n None = None
 page_behind n (Some c) = Some (cursor_by n c)
 
--- what news give a watcher of a newest value that was pushed this one last: the whole text of another
-abbrev pub value_given : News → ℕ → Given
-value_given (news.Page from next frozen own) seen = nothing
-value_given (news.Value version) seen = if seen == version then nothing else whole
-value_given (news.Steps left_out count) seen = nothing
+-- newest values are pushed to who has so many bytes unread: fewer than 64 KiB
+abbrev pub gets_values : ℕ → Bool
+gets_values unread = nat_lt unread 65536
 
-abbrev pub value_behind : News → ℕ → ℕ
-value_behind (news.Page from next frozen own) seen = seen
-value_behind (news.Value version) seen = version
-value_behind (news.Steps left_out count) seen = seen
+-- what news give a watcher of a newest value that was pushed this one last and has so many bytes unread: the whole text
+-- of another, where it is pushed values at all; where not, this one stays the one that it was pushed last
+abbrev pub value_given : News → ℕ → ℕ → Given
+value_given (news.Page from next frozen own) unread seen = nothing
+value_given (news.Value version) unread seen = if gets_values unread then (if seen == version then nothing else whole) else nothing
+value_given (news.Steps left_out count) unread seen = nothing
 
-abbrev pub latest_given : News → Option ℕ → Option Given
-latest_given n None = None
-latest_given n (Some seen) = Some (value_given n seen)
+abbrev pub value_behind : News → ℕ → ℕ → ℕ
+value_behind (news.Page from next frozen own) unread seen = seen
+value_behind (news.Value version) unread seen = if gets_values unread then version else seen
+value_behind (news.Steps left_out count) unread seen = seen
 
-abbrev pub latest_behind : News → Option ℕ → Option ℕ
-latest_behind n None = None
-latest_behind n (Some seen) = Some (value_behind n seen)
+abbrev pub latest_given : News → ℕ → Option ℕ → Option Given
+latest_given n unread None = None
+latest_given n unread (Some seen) = Some (value_given n unread seen)
+
+abbrev pub latest_behind : News → ℕ → Option ℕ → Option ℕ
+latest_behind n unread None = None
+latest_behind n unread (Some seen) = Some (value_behind n unread seen)
+
+-- lines of steps are pushed to who has so many bytes unread: fewer than 256 KiB
+abbrev pub gets_steps : ℕ → Bool
+gets_steps unread = nat_lt unread 262144
+
+-- a sum as far as 64 bits count
+abbrev pub sum_64 : ℕ → ℕ → ℕ
+sum_64 one other = min (one + other) (2 ^ 64 - 1)
+
+-- all lines, of so many, if there are any
+abbrev pub all_of : ℕ → Option ℕ
+all_of count = if nat_lt 0 count then Some 0 else None
+
+-- what news give a watcher of steps for which so many were left out since it was pushed any, with so many bytes unread: how
+-- many were left out, and all lines; where it is pushed none, these are left out, too
+abbrev pub steps_given : News → ℕ → ℕ → Given
+steps_given (news.Page from next frozen own) unread left_out = nothing
+steps_given (news.Value version) unread left_out = nothing
+steps_given (news.Steps before count) unread left_out =
+    if gets_steps unread then record { skipped = sum_64 left_out before; behind = all_of count; frozen = false } else nothing
+
+abbrev pub steps_behind : News → ℕ → ℕ → ℕ
+steps_behind (news.Page from next frozen own) unread left_out = left_out
+steps_behind (news.Value version) unread left_out = left_out
+steps_behind (news.Steps before count) unread left_out = if gets_steps unread then 0 else sum_64 (sum_64 left_out before) count
+
+abbrev pub left_given : News → ℕ → Option ℕ → Option Given
+left_given n unread None = None
+left_given n unread (Some left_out) = Some (steps_given n unread left_out)
+
+abbrev pub left_behind : News → ℕ → Option ℕ → Option ℕ
+left_behind n unread None = None
+left_behind n unread (Some left_out) = Some (steps_behind n unread left_out)
+
+-- it watches a value of which it was not pushed the newest, which has this number
+abbrev pub lacks : ℕ → Option ℕ → Bool
+lacks version None = false
+lacks version (Some seen) = not (seen == version)
+
+-- of these newest values it watches, and was not pushed, these
+abbrev pub lacking : Newest → Marks → Unpushed
+lacking newest m =
+    record { vars = lacks newest.vars m.vars; horizon = lacks newest.horizon m.horizon; breach = lacks newest.breach m.breach }
 
 -- a page is on its way for it
 abbrev pub has_asked : Option Cursor → Bool
@@ -127,20 +177,20 @@ marks_asked subject.Horizon asked m = m
 marks_asked subject.Breach asked m = m
 marks_asked subject.Steps asked m = m
 
--- this is what it gets of these news of a thing; of steps only whether it gets any
-abbrev pub IsGivenOf : Subject → News → Marks → Option Given → Type 0
-IsGivenOf subject.Log n m given = given ≡ page_given n m.log
-IsGivenOf subject.Released n m given = given ≡ page_given n m.released
-IsGivenOf subject.Vars n m given = given ≡ latest_given n m.vars
-IsGivenOf subject.Horizon n m given = given ≡ latest_given n m.horizon
-IsGivenOf subject.Breach n m given = given ≡ latest_given n m.breach
-IsGivenOf subject.Steps n m given = m.steps ≡ None → given ≡ None
+-- what it gets of these news of a thing, with so many bytes unread
+abbrev pub given_to : Subject → News → ℕ → Marks → Option Given
+given_to subject.Log n unread m = page_given n m.log
+given_to subject.Released n unread m = page_given n m.released
+given_to subject.Vars n unread m = latest_given n unread m.vars
+given_to subject.Horizon n unread m = latest_given n unread m.horizon
+given_to subject.Breach n unread m = latest_given n unread m.breach
+given_to subject.Steps n unread m = left_given n unread m.steps
 
--- and this is how far it was pushed then
-abbrev pub AreMarksBehind : Subject → News → Marks → Marks → Type 0
-AreMarksBehind subject.Log n m m' = m' ≡ record m { log = page_behind n m.log }
-AreMarksBehind subject.Released n m m' = m' ≡ record m { released = page_behind n m.released }
-AreMarksBehind subject.Vars n m m' = m' ≡ record m { vars = latest_behind n m.vars }
-AreMarksBehind subject.Horizon n m m' = m' ≡ record m { horizon = latest_behind n m.horizon }
-AreMarksBehind subject.Breach n m m' = m' ≡ record m { breach = latest_behind n m.breach }
-AreMarksBehind subject.Steps n m m' = m' ≡ record m { steps = m'.steps }
+-- and how far it was pushed then
+abbrev pub marks_behind : Subject → News → ℕ → Marks → Marks
+marks_behind subject.Log n unread m = record m { log = page_behind n m.log }
+marks_behind subject.Released n unread m = record m { released = page_behind n m.released }
+marks_behind subject.Vars n unread m = record m { vars = latest_behind n unread m.vars }
+marks_behind subject.Horizon n unread m = record m { horizon = latest_behind n unread m.horizon }
+marks_behind subject.Breach n unread m = record m { breach = latest_behind n unread m.breach }
+marks_behind subject.Steps n unread m = record m { steps = left_behind n unread m.steps }

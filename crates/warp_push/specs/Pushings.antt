@@ -5,7 +5,7 @@ use Rattle.warp_hub.specs.declared.words.Subject.TheVariants as subject
 use Rattle.warp_watch.specs.declared.client_id.ClientId.{ClientId}
 use Rattle.warp_watch.specs.declared.question.Question.{Question}
 use Rattle.warp_watch.specs.declared.question.Question.TheVariants as question
-use Rattle.warp_push.specs.Texts.{marked, page_lines, pushed_mark}
+use Rattle.warp_push.specs.Texts.{SaysValue, marked, page_lines, pushed_mark}
 use Rattle.warp_push.specs.declared.marks.News.TheVariants as news
 use Rattle.warp_push.specs.declared.watchers.Answered.{Answered}
 use Rattle.warp_push.specs.declared.watchers.Pushing.{Pushing}
@@ -21,9 +21,11 @@ IsPage what from a p =
     (p.subject ≡ what) × (p.news ≡ news.Page from a.told.next a.told.frozen (is_own a.asked.who)) × (p.who ≡ a.asked.who)
     × (p.len ≡ a.told.len) × (p.text.items ≡ marked pushed_mark (page_lines a.told.frozen a.told.text.items))
 
--- a newest value, to all
+-- a newest value, to all: the one that was told
 abbrev pub IsValue : Subject → Answered → Pushing → Type 0
-IsValue what a p = (p.subject ≡ what) × (p.who ≡ None) × (p.len ≡ a.told.len)
+IsValue what a p =
+    (p.subject ≡ what) × (p.who ≡ None) × (p.len ≡ a.told.len) × ((version : ℕ) × (p.news ≡ news.Value version))
+    × SaysValue p.text.items a.told.text.items
 
 -- this is pushed of what was told to that question
 abbrev pub IsPushedOf : Question → Answered → Pushing → Type 0

@@ -1,13 +1,14 @@
 -- Clients by their keys: what each watches.
 use Rattle.std.specs.Prelude.{◌≡◌, ◌⊎◌, ◌<◌, ◌+◌, ℕ, List, ◌++◌, Option, None, Some, length, replicate, slice_get, slice_set, map, Bool, true, false}
 use Rattle.warp_hub.specs.declared.words.Subject.{Subject}
+use Rattle.warp_hub.specs.declared.words.Subject.TheVariants as thing
 use Rattle.warp_hub.specs.declared.words.Word.{Word}
 use Rattle.warp_hub.specs.declared.words.Word.TheVariants as word
 use Rattle.warp_watch.specs.declared.client_id.ClientId.{ClientId}
 use Rattle.warp_push.specs.declared.marks.Given.{Given}
 use Rattle.warp_push.specs.declared.marks.Marks.{Marks}
 use Rattle.warp_push.specs.declared.marks.News.{News}
-use Rattle.warp_push.specs.Marks.{AreMarksBehind, IsGivenOf, cursor_in, marks_with, marks_without, unasked}
+use Rattle.warp_push.specs.Marks.{cursor_in, given_to, marks_asked, marks_behind, marks_with, marks_without, unasked}
 use Rattle.warp_push.specs.declared.marks.Cursor.{Cursor}
 use Rattle.warp_watch.specs.declared.question.Question.{Question}
 use Rattle.warp_watch.specs.declared.question.Question.TheVariants as question
@@ -58,10 +59,10 @@ Watches f s s' = s' ≡ record s { marks = f s.marks }
 abbrev pub WatchesNothing : Seat → Seat → Type 0
 WatchesNothing s s' = s' ≡ record s { marks = no_marks }
 
--- these news of a thing give it this, and count as pushed
-abbrev pub Takes : Subject → News → Option Given → Seat → Seat → Type 0
-Takes subject n given s s' =
-    IsGivenOf subject n s.marks given × AreMarksBehind subject n s.marks s'.marks × (s'.round ≡ s.round)
+-- these news of a thing give it this, with so many bytes unread, and what it was given counts as pushed
+abbrev pub Takes : Subject → News → ℕ → Option Given → Seat → Seat → Type 0
+Takes subject n unread given s s' =
+    (given ≡ given_to subject n unread s.marks) × (s' ≡ record s { marks = marks_behind subject n unread s.marks })
 
 -- places were made that nobody has had
 abbrev pub Grows : List Seat → List Seat → Type 0
@@ -79,6 +80,7 @@ Notes who word.Program old new = new ≡ old
 Notes who word.Names old new = new ≡ old
 Notes who word.Vars old new = new ≡ old
 Notes who word.Releases old new = new ≡ old
+Notes who word.Digest old new = new ≡ old
 Notes who (word.Release number) old new = new ≡ old
 Notes who (word.Counts origin) old new = new ≡ old
 Notes who (word.Reached origin) old new = new ≡ old
@@ -90,6 +92,39 @@ settled s = record s { marks = unasked s.marks }
 -- nothing changes but which pages of their own are on their way
 abbrev pub OnlyAsks : List Seat → List Seat → Type 0
 OnlyAsks old new = map settled new ≡ map settled old
+
+-- a page of this client's own of a thing is on its way from now on, or does not come
+abbrev pub Asks : ClientId → Subject → Bool → List Seat → List Seat → Type 0
+Asks who subject asked old new = May who (Watches (marks_asked subject asked)) old new
+
+-- the page that this question is for is on its way for the client
+abbrev pub AsksFor : ClientId → Question → List Seat → List Seat → Type 0
+AsksFor who (question.Log from until) old new = Asks who thing.Log true old new
+AsksFor who (question.Released from until) old new = Asks who thing.Released true old new
+AsksFor who question.Vars old new = ⊥
+AsksFor who question.Releases old new = ⊥
+AsksFor who (question.Release number) old new = ⊥
+AsksFor who question.Horizon old new = ⊥
+AsksFor who question.Breaches old new = ⊥
+AsksFor who (question.Counts origin) old new = ⊥
+AsksFor who (question.Reached origin) old new = ⊥
+
+-- a page of a thing that was asked for this client, if it was for one, does not come: it is asked for again
+abbrev pub NoPage : Subject → Option ClientId → List Seat → List Seat → Type 0
+NoPage subject None old new = new ≡ old
+NoPage subject (Some who) old new = Asks who subject false old new
+
+-- what this question asked for could not be told
+abbrev pub NotTold : Question → Option ClientId → List Seat → List Seat → Type 0
+NotTold (question.Log from until) who old new = NoPage thing.Log who old new
+NotTold (question.Released from until) who old new = NoPage thing.Released who old new
+NotTold question.Vars who old new = new ≡ old
+NotTold question.Releases who old new = new ≡ old
+NotTold (question.Release number) who old new = new ≡ old
+NotTold question.Horizon who old new = new ≡ old
+NotTold question.Breaches who old new = new ≡ old
+NotTold (question.Counts origin) who old new = new ≡ old
+NotTold (question.Reached origin) who old new = new ≡ old
 
 -- it goes on here, and does go on
 abbrev pub GoesOnAt : ℕ → Option Cursor → Type 0

@@ -1,5 +1,5 @@
 //! What a client watches, and how far it was pushed.
-ghost use Rattle.std.specs.Prelude.{◌≡◌, None, false};
+ghost use Rattle.std.specs.Prelude.{◌≡◌, false};
 ghost use Rattle.warp_push.specs.Marks as marks;
 ghost use Rattle.warp_push.specs.Pages as pages;
 
@@ -7,6 +7,23 @@ use warp_hub::{Subject, Watch};
 
 /// While so many bytes are to be written to a client, no lines of steps are pushed to it.
 const MOST_BEFORE_STEPS: usize = 262_144;
+
+/// While so many bytes are to be written to a client, no newest values are pushed to it: it gets the newest behind them.
+const MOST_BEFORE_VALUES: usize = 65_536;
+
+/// Whether newest values are pushed to a client to which so many bytes are to be written.
+pub(crate) fn may_get_values(unread: usize) -> bool
+    ensures { result ≡ marks.gets_values unread }
+{
+    unread < MOST_BEFORE_VALUES
+}
+
+/// Whether lines of steps are pushed to a client to which so many bytes are to be written.
+fn may_get_steps(unread: usize) -> bool
+    ensures { result ≡ marks.gets_steps unread }
+{
+    unread < MOST_BEFORE_STEPS
+}
 
 /// What is pushed to who watches a thing.
 #[derive(Clone, Copy)]
@@ -138,14 +155,17 @@ fn take_page(cursor: &mut Option<Cursor>, news: News) -> Option<Given>
     Some(watch.take_news(news))
 }
 
-/// What a watcher gets of a value that was pushed this one last.
-fn value_of(seen: &mut u64, news: News) -> Given
-    ensures given { result ≡ marks.value_given news seen.old }
-    ensures after { seen.new ≡ marks.value_behind news seen.old }
+/// What a watcher gets of a value that was pushed this one last, while so many bytes are to be written to it.
+fn value_of(seen: &mut u64, news: News, unread: usize) -> Given
+    ensures given { result ≡ marks.value_given news unread seen.old }
+    ensures after { seen.new ≡ marks.value_behind news unread seen.old }
 {
     let News::Value(version) = news else {
         return NOTHING;
     };
+    if !may_get_values(unread) {
+        return NOTHING;
+    }
     if *seen == version {
         return NOTHING;
     }
@@ -154,18 +174,28 @@ fn value_of(seen: &mut u64, news: News) -> Given
 }
 
 /// The same; none where nobody watches.
-fn take_value(seen: &mut Option<u64>, news: News) -> Option<Given>
-    ensures given { result ≡ marks.latest_given news seen.old }
-    ensures after { seen.new ≡ marks.latest_behind news seen.old }
+fn take_value(seen: &mut Option<u64>, news: News, unread: usize) -> Option<Given>
+    ensures given { result ≡ marks.latest_given news unread seen.old }
+    ensures after { seen.new ≡ marks.latest_behind news unread seen.old }
 {
     let Some(seen) = seen else {
         return None;
     };
-    Some(value_of(seen, news))
+    Some(value_of(seen, news, unread))
+}
+
+/// Where the lines begin that a watcher gets of so many, if there are any.
+fn all_of(count: u64) -> Option<u32>
+    ensures { result ≡ marks.all_of count }
+{
+    if count > 0 { Some(0) } else { None }
 }
 
 /// What a watcher gets of lines of steps, for which so many were left out before.
-fn steps_of(left_out: &mut u64, news: News, unread: usize) -> Given {
+fn steps_of(left_out: &mut u64, news: News, unread: usize) -> Given
+    ensures given { result ≡ marks.steps_given news unread left_out.old }
+    ensures after { left_out.new ≡ marks.steps_behind news unread left_out.old }
+{
     let News::Steps {
         left_out: before,
         count,
@@ -174,21 +204,22 @@ fn steps_of(left_out: &mut u64, news: News, unread: usize) -> Given {
         return NOTHING;
     };
     let skipped = left_out.saturating_add(before);
-    if unread >= MOST_BEFORE_STEPS {
+    if !may_get_steps(unread) {
         *left_out = skipped.saturating_add(count);
         return NOTHING;
     }
     *left_out = 0;
     Given {
         skipped,
-        behind: if count > 0 { Some(0) } else { None },
+        behind: all_of(count),
         frozen: false,
     }
 }
 
 /// The same; none where nobody watches.
 fn take_steps(left_out: &mut Option<u64>, news: News, unread: usize) -> Option<Given>
-    ensures { left_out.old ≡ None → result ≡ None }
+    ensures given { result ≡ marks.left_given news unread left_out.old }
+    ensures after { left_out.new ≡ marks.left_behind news unread left_out.old }
 {
     let Some(left_out) = left_out else {
         return None;
@@ -200,6 +231,16 @@ fn take_steps(left_out: &mut Option<u64>, news: News, unread: usize) -> Option<G
 fn is_unpushed(seen: Option<u64>) -> bool {
     match seen {
         Some(version) => version == 0,
+        None => false,
+    }
+}
+
+/// Whether this is a watcher that was not pushed the value of this number last.
+fn lacks(seen: Option<u64>, version: u64) -> bool
+    ensures { result ≡ marks.lacks version seen }
+{
+    match seen {
+        Some(last) => last != version,
         None => false,
     }
 }
@@ -246,12 +287,20 @@ pub(crate) const NO_MARKS: Marks = Marks {
     steps: None,
 };
 
-/// Which newest values a watcher was not pushed any of yet.
+/// Which newest values are to be told for a watcher that was not pushed them.
 #[derive(Clone, Copy)]
 pub(crate) struct Unpushed {
     pub(crate) vars: bool,
     pub(crate) horizon: bool,
     pub(crate) breach: bool,
+}
+
+/// The numbers of the newest values that were told.
+#[derive(Clone, Copy)]
+pub(crate) struct Newest {
+    pub(crate) vars: u64,
+    pub(crate) horizon: u64,
+    pub(crate) breach: u64,
 }
 
 /// What this watches.
@@ -331,18 +380,29 @@ impl Marks {
         }
     }
 
-    /// What it gets of these news of a thing, while so many bytes are to be written to it; they count as pushed. None
-    /// where it does not watch it.
+    /// Which values it watches of which it was not pushed the newest.
+    pub(crate) fn lacking(&self, newest: Newest) -> Unpushed
+        ensures { result ≡ marks.lacking newest self.now }
+    {
+        Unpushed {
+            vars: lacks(self.vars, newest.vars),
+            horizon: lacks(self.horizon, newest.horizon),
+            breach: lacks(self.breach, newest.breach),
+        }
+    }
+
+    /// What it gets of these news of a thing, while so many bytes are to be written to it; what it gets counts as pushed.
+    /// None where it does not watch it.
     pub(crate) fn take(&mut self, subject: Subject, news: News, unread: usize) -> Option<Given>
-        ensures given { marks.IsGivenOf subject news self.old result }
-        ensures after { marks.AreMarksBehind subject news self.old self.new }
+        ensures given { result ≡ marks.given_to subject news unread self.old }
+        ensures after { self.new ≡ marks.marks_behind subject news unread self.old }
     {
         match subject {
             Subject::Log => take_page(&mut self.log, news),
             Subject::Released => take_page(&mut self.released, news),
-            Subject::Vars => take_value(&mut self.vars, news),
-            Subject::Horizon => take_value(&mut self.horizon, news),
-            Subject::Breach => take_value(&mut self.breach, news),
+            Subject::Vars => take_value(&mut self.vars, news, unread),
+            Subject::Horizon => take_value(&mut self.horizon, news, unread),
+            Subject::Breach => take_value(&mut self.breach, news, unread),
             Subject::Steps => take_steps(&mut self.steps, news, unread),
         }
     }

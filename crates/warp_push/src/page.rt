@@ -1,7 +1,10 @@
 //! What is pushed, as text: lines with their marks.
 
-ghost use Rattle.std.specs.Prelude.{◌≡◌, ◌++◌, ◌∷◌, [], IfOk, OnOk, if◌then◌else◌};
-ghost use Rattle.warp_push.specs.Texts.{marked, page_lines, pushed_mark};
+ghost use Rattle.std.specs.Prelude.{◌≡◌, ◌++◌, ◌==◌, ◌∷◌, ◌↔◌, [], IfOk, IsTrue, OnOk, cond, if◌then◌else◌};
+ghost use Rattle.std.specs.List.{after_first, position};
+ghost use Rattle.warp_push.specs.Marks.{sum_64};
+ghost use Rattle.warp_push.specs.Texts.{behind_lines, ends_word, from_word_end, lines_in, marked, page_lines};
+ghost use Rattle.warp_push.specs.Texts.{pushed_mark, skipped_text, value_in};
 
 use arrayvec::ArrayVec;
 use itoa::Buffer;
@@ -23,7 +26,9 @@ const FROZEN_LEN: usize = 7;
 pub const GONE_SLOW: &[u8] = b"* gone slow\n";
 
 /// The line that says how many lines of steps were left out.
-pub fn skipped_line(left_out: u64) -> ArrayVec<u8, 32> {
+pub fn skipped_line(left_out: u64) -> ArrayVec<u8, 32>
+    ensures { result.items ≡ skipped_text left_out }
+{
     let mut digits = Buffer::new();
     let mut line = ArrayVec::new();
     let _ = line.try_extend_from_slice(b"* skipped ");
@@ -75,62 +80,104 @@ fn lines_of(text: &[u8], frozen: bool) -> &[u8]
     &text[..text.len().saturating_sub(FROZEN_LEN)]
 }
 
-/// Puts this line, with the mark in front, in the place of what is there. `Err` changes nothing.
-pub(crate) fn mark_line(line: &mut Vec<u8>, text: &[u8]) -> Result<(), AllocError> {
-    line.reserve(text.len().saturating_add(MARK.len()))?;
+/// A line with the mark in front.
+pub(crate) fn marked_line(alloc: Global, line: &[u8]) -> Result<Vec<u8>, AllocError>
+    ensures { IfOk result (λ text. text.items ≡ pushed_mark ++ line.now) }
+{
+    let mut text = Vec::from_slice(alloc, MARK)?;
+    text.extend_from_slice(line)?;
+    Ok(text)
+}
+
+/// Puts this line in the place of what is there. `Err` changes nothing.
+pub(crate) fn put_line(line: &mut Vec<u8>, text: &[u8]) -> Result<(), AllocError>
+    ensures { OnOk result (line.new.items ≡ text.now) }
+{
+    line.reserve(text.len())?;
     line.clear();
-    line.extend_from_slice(MARK)?;
     line.extend_from_slice(text)?;
     Ok(())
 }
 
-/// A line that is pushed without its mark.
-pub(crate) fn behind_mark(line: &[u8]) -> &[u8] {
-    match line {
-        [b'*', b' ', text @ ..] => text,
-        _ => line,
-    }
+/// Where the first of these bytes is.
+fn find(text: &[u8], byte: u8) -> Option<usize>
+    ensures { result ≡ position (λ b. b == byte) text.now }
+{
+    text.iter().position(|b| *b == byte)
 }
 
-/// What stands behind the first line.
-fn behind_line(text: &[u8]) -> &[u8] {
-    let Some(end) = text.iter().position(|byte| *byte == b'\n') else {
+/// What stands behind the first of these bytes; nothing where there is none.
+fn behind_first(text: &[u8], byte: u8) -> &[u8]
+    ensures { result.now ≡ after_first (λ b. b == byte) text.now }
+{
+    let Some(end) = find(text, byte) else {
         return &[];
     };
     &text[end + 1..]
 }
 
-/// What stands behind the first so many lines.
-pub fn behind_lines(text: &[u8], count: u32) -> &[u8] {
+/// What stands behind the first so many lines; nothing where there are no more.
+pub fn behind_lines(text: &[u8], count: u32) -> &[u8]
+    ensures { result.now ≡ behind_lines count text.now }
+{
     let mut rest = text;
-    for _ in 0..count {
+    for _at in 0..count {
         if rest.is_empty() {
             return rest;
         }
-        rest = behind_line(rest);
+        rest = behind_first(rest, b'\n');
     }
     rest
 }
 
-/// What stands behind the second word of a line: all but the length of the log.
-pub(crate) fn behind_length(text: &[u8]) -> &[u8] {
-    let Some(space) = text.iter().position(|byte| *byte == b' ') else {
-        return &[];
-    };
-    let rest = &text[space + 1..];
-    let Some(end) = rest.iter().position(|byte| *byte <= b' ') else {
-        return &[];
-    };
-    &rest[end..]
+/// Where the first byte is that ends a word.
+fn find_word_end(text: &[u8]) -> Option<usize>
+    ensures { result ≡ position ends_word text.now }
+{
+    text.iter().position(|byte| *byte <= b' ')
 }
 
-/// How many lines this text has.
-pub(crate) fn lines_in(text: &[u8]) -> u64 {
+/// From the first byte on that ends a word.
+fn from_word_end(text: &[u8]) -> &[u8]
+    ensures { result.now ≡ from_word_end text.now }
+{
+    let Some(end) = find_word_end(text) else {
+        return &[];
+    };
+    &text[end..]
+}
+
+/// What stands behind the second word of a line: all but the length of the log.
+fn value_in(line: &[u8]) -> &[u8]
+    ensures { result.now ≡ value_in line.now }
+{
+    from_word_end(behind_first(line, b' '))
+}
+
+/// Whether two lines say the same behind their second words.
+pub(crate) fn say_the_same(left: &[u8], right: &[u8]) -> bool
+    ensures { IsTrue result ↔ (value_in left.now ≡ value_in right.now) }
+{
+    value_in(left) == value_in(right)
+}
+
+/// How many lines this text has, as far as 64 bits count.
+pub(crate) fn lines_in(text: &[u8]) -> u64
+    ensures { result ≡ lines_in text.now }
+{
     let mut count = 0u64;
     for byte in text {
-        if *byte == b'\n' {
-            count = count.saturating_add(1);
-        }
+        count = with_byte(count, *byte);
+    }
+    count
+}
+
+/// One line more, where this byte ends one.
+fn with_byte(count: u64, byte: u8) -> u64
+    ensures { result ≡ sum_64 count (cond (byte == 10) 1 0) }
+{
+    if byte == b'\n' {
+        return count.saturating_add(1);
     }
     count
 }

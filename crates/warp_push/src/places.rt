@@ -5,7 +5,7 @@ ghost use Rattle.warp_push.specs.Marks as marks;
 ghost use Rattle.warp_push.specs.Seats.{GetsSeat, Grows, IsAway, IsMe, IsThere, May, OnlyAsks, Takes, Watches, WatchesNothing};
 ghost use Rattle.warp_push.specs.Seats.{empty_seat, fresh_seat, no_marks, settled};
 
-use crate::marks::{Cursor, Given, Marks, NO_MARKS, News, Unpushed};
+use crate::marks::{Cursor, Given, Marks, NO_MARKS, Newest, News, Unpushed};
 use std::alloc::{AllocError, Global};
 use std::marker::Model;
 use warp_hub::{Subject, Watch};
@@ -140,9 +140,16 @@ impl Place {
         self.marks.ask(subject, is_asked);
     }
 
+    /// Which values its client watches of which it was not pushed the newest.
+    fn lacking(&self, newest: Newest) -> Unpushed
+        ensures { result ≡ marks.lacking newest self.now.marks }
+    {
+        self.marks.lacking(newest)
+    }
+
     /// What its client gets of these news of a thing.
     fn take(&mut self, subject: Subject, news: News, unread: usize) -> Option<Given>
-        ensures { Takes subject news result self.old self.new }
+        ensures { Takes subject news unread result self.old self.new }
     {
         self.marks.take(subject, news, unread)
     }
@@ -295,7 +302,7 @@ impl Places {
         news: News,
         unread: usize,
     ) -> Option<Given>
-        ensures takes { May who (Takes subject news result) self.old self.new }
+        ensures takes { May who (Takes subject news unread result) self.old self.new }
         ensures away { IsAway who self.old → result ≡ None }
     {
         let at = who.key as usize;
@@ -303,6 +310,17 @@ impl Places {
             return None;
         }
         self.all[at].take(subject, news, unread)
+    }
+
+    /// Which values a client watches of which it was not pushed the newest; none where it has no place.
+    pub(crate) fn lacking(&self, who: ClientId, newest: Newest) -> Option<Unpushed>
+        ensures { IfSome result (λ u. IsThere who (λ s. u ≡ marks.lacking newest s.marks) self.now) }
+    {
+        let at = who.key as usize;
+        if at >= self.all.len() || !self.all[at].is_me(who) {
+            return None;
+        }
+        Some(self.all[at].lacking(newest))
     }
 
     /// Where a client goes on, of what comes in pages, if it watches it.

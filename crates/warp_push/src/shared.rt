@@ -1,6 +1,9 @@
 //! What is asked for all watchers of a thing at once.
 
-use crate::page::{behind_length, behind_mark, mark_line};
+ghost use Rattle.std.specs.Prelude.{◌≡◌, ◌++◌, IfSome, OnOk, false};
+ghost use Rattle.warp_push.specs.Texts.{SaysValue, value_in};
+
+use crate::page::{marked_line, put_line, say_the_same};
 use std::alloc::{AllocError, Global};
 use warp_watch::{PAGE, Question};
 
@@ -123,7 +126,7 @@ impl Tail {
 #[derive(Drop)]
 pub(crate) struct Latest {
     question: Question,
-    /// Its line as it is pushed; nothing before the first.
+    /// Its line as it was told; nothing before the first.
     text: Vec<u8>,
     /// The so-manieth value it is; 0 before the first.
     version: u64,
@@ -176,27 +179,38 @@ impl Latest {
     }
 
     /// Whether this line says another value.
-    fn differs(&self, text: &[u8]) -> bool {
-        if self.version == 0 {
-            return true;
-        }
-        behind_length(text) != behind_length(behind_mark(&self.text))
+    fn differs(&self, text: &[u8]) -> bool
+        ensures { result ≡ false → value_in self.now.text.items ≡ value_in text.now }
+    {
+        self.version == 0 || !say_the_same(&self.text, text)
     }
 
     /// Keeps a new value.
-    fn renew(&mut self, text: &[u8]) -> Result<(), AllocError> {
-        mark_line(&mut self.text, text)?;
+    fn renew(&mut self, text: &[u8]) -> Result<(), AllocError>
+        ensures { OnOk result (self.new.text.items ≡ text.now) }
+    {
+        put_line(&mut self.text, text)?;
         self.version = self.version.wrapping_add(1);
         Ok(())
     }
 
-    /// It was told. Whether there may be watchers that were not pushed it. `Err` takes nothing on.
-    fn told(&mut self, len: u32, text: &[u8]) -> Result<bool, AllocError> {
-        self.is_asked = false;
-        let is_new = self.differs(text);
-        if is_new {
-            self.renew(text)?;
+    /// Keeps a value that is another one; whether it is.
+    fn take(&mut self, text: &[u8]) -> Result<bool, AllocError>
+        ensures { OnOk result (value_in self.new.text.items ≡ value_in text.now) }
+    {
+        if !self.differs(text) {
+            return Ok(false);
         }
+        self.renew(text)?;
+        Ok(true)
+    }
+
+    /// It was told. Whether there may be watchers that were not pushed it. `Err` takes nothing on.
+    fn told(&mut self, len: u32, text: &[u8]) -> Result<bool, AllocError>
+        ensures { OnOk result (value_in self.new.text.items ≡ value_in text.now) }
+    {
+        self.is_asked = false;
+        let is_new = self.take(text)?;
         let is_due = is_new || self.is_wanted;
         self.seen = len;
         self.is_wanted = false;
@@ -204,17 +218,19 @@ impl Latest {
     }
 
     /// It was told: its line, where there may be watchers that were not pushed it. Without memory it is asked again.
-    pub(crate) fn news(&mut self, alloc: Global, len: u32, text: &[u8]) -> Option<Vec<u8>> {
+    pub(crate) fn news(&mut self, alloc: Global, len: u32, text: &[u8]) -> Option<Vec<u8>>
+        ensures { IfSome result (λ line. SaysValue line.items text.now) }
+    {
         let Ok(is_due) = self.told(len, text) else {
             return None;
         };
         if !is_due {
             return None;
         }
-        let Ok(text) = Vec::from_slice(alloc, &self.text) else {
+        let Ok(line) = marked_line(alloc, &self.text) else {
             self.is_wanted = true;
             return None;
         };
-        Some(text)
+        Some(line)
     }
 }

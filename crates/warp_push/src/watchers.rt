@@ -1,13 +1,13 @@
 //! Who watches what, what is asked for them, what was told, and what is pushed of it.
 
-ghost use Rattle.std.specs.Prelude.{◌≡◌, ◌≤◌, [], IfSome, None, OnErr, OnOk, false};
+ghost use Rattle.std.specs.Prelude.{◌≡◌, ◌≤◌, [], IfSome, None, OnErr, OnOk, false, true};
 ghost use Rattle.warp_push.specs.Pushings.{IsPage, IsPushedOf, IsValue, is_own};
-ghost use Rattle.warp_push.specs.Seats.{GetsSeat, GoesOnAt, Grows, IsAway, IsOwnPage, IsThere, May, Notes, OnlyAsks};
-ghost use Rattle.warp_push.specs.Seats.{Takes, Watches, WatchesNothing};
+ghost use Rattle.warp_push.specs.Seats.{AsksFor, GetsSeat, GoesOnAt, Grows, IsAway, IsOwnPage, IsThere, May, NoPage, NotTold, Notes};
+ghost use Rattle.warp_push.specs.Seats.{OnlyAsks, Takes, Watches, WatchesNothing};
 ghost use Rattle.warp_push.specs.Marks as marks;
 
 use crate::lists::Lists;
-use crate::marks::{Given, News, Unpushed, subject_of};
+use crate::marks::{Given, Newest, News, Unpushed, may_get_values, subject_of};
 use crate::page::page_text;
 use crate::places::Places;
 use crate::shared::{Latest, NO_TAIL, Tail};
@@ -155,6 +155,7 @@ impl Watchers {
             | Word::Names
             | Word::Vars
             | Word::Releases
+            | Word::Digest
             | Word::Release(_)
             | Word::Counts(_)
             | Word::Reached(_) => true,
@@ -172,7 +173,7 @@ impl Watchers {
         self.enlist(who, subject_of(watch)) && self.want(who.key)
     }
 
-    /// Some watcher was not pushed any of these values.
+    /// Some watcher was not pushed these values.
     fn want_values(&mut self, unpushed: Unpushed)
         ensures { self.new ≡ self.old }
     {
@@ -242,6 +243,7 @@ impl Watchers {
     pub fn own_page(&mut self, who: ClientId) -> Option<Question>
         ensures only { OnlyAsks self.old self.new }
         ensures own { IfSome result (λ question. IsOwnPage who question self.old) }
+        ensures asked { IfSome result (λ question. AsksFor who question self.old self.new) }
     {
         let question = self.next_page(who)?;
         if self.wants_page(who) {
@@ -254,6 +256,7 @@ impl Watchers {
     fn next_page(&mut self, who: ClientId) -> Option<Question>
         ensures only { OnlyAsks self.old self.new }
         ensures own { IfSome result (λ question. IsOwnPage who question self.old) }
+        ensures asked { IfSome result (λ question. AsksFor who question self.old self.new) }
     {
         if let Some((from, until)) = self.page_of(who, Subject::Log) {
             self.places.ask(who, Subject::Log, true);
@@ -337,7 +340,8 @@ impl Watchers {
 
     /// What was asked could not be told: it is asked again.
     pub fn missed(&mut self, asked: &Asked)
-        ensures { OnlyAsks self.old self.new }
+        ensures only { OnlyAsks self.old self.new }
+        ensures again { NotTold asked.now.question asked.now.who self.old self.new }
     {
         match asked.question {
             Question::Log { .. } => self.miss_page(asked.who, Subject::Log),
@@ -354,7 +358,8 @@ impl Watchers {
 
     /// A page does not come, for one watcher or for all.
     fn miss_page(&mut self, who: Option<ClientId>, subject: Subject)
-        ensures { OnlyAsks self.old self.new }
+        ensures only { OnlyAsks self.old self.new }
+        ensures again { NoPage subject who self.old self.new }
     {
         match who {
             Some(who) => {
@@ -528,8 +533,35 @@ impl Watchers {
         self.places.delist(key, subject);
     }
 
-    /// What a client gets of these news of a thing, while so many bytes are to be written to it; none where it does not
-    /// watch it.
+    /// Something was written to a client, and so many bytes are still to be written: of what it watches the newest values
+    /// are told again that it was not pushed, where it is pushed values now. Whether some are.
+    pub fn read_on(&mut self, who: ClientId, unread: usize) -> bool
+        ensures same { self.new ≡ self.old }
+        ensures gets { result ≡ true → marks.gets_values unread ≡ true }
+        ensures there { result ≡ true → IsThere who (λ s. Unit {0}) self.old }
+    {
+        if !may_get_values(unread) {
+            return false;
+        }
+        let newest = self.newest();
+        let Some(lacking) = self.places.lacking(who, newest) else {
+            return false;
+        };
+        self.want_values(lacking);
+        lacking.vars || lacking.horizon || lacking.breach
+    }
+
+    /// The numbers of the newest values.
+    fn newest(&self) -> Newest {
+        Newest {
+            vars: self.vars.version(),
+            horizon: self.horizon.version(),
+            breach: self.breach.version(),
+        }
+    }
+
+    /// What a client gets of these news of a thing, while so many bytes are to be written to it: of newest values nothing
+    /// once 65,536 are; none where it does not watch it.
     pub fn take(
         &mut self,
         who: ClientId,
@@ -537,7 +569,7 @@ impl Watchers {
         news: News,
         unread: usize,
     ) -> Option<Given>
-        ensures takes { May who (Takes subject news result) self.old self.new }
+        ensures takes { May who (Takes subject news unread result) self.old self.new }
         ensures away { IsAway who self.old → result ≡ None }
     {
         self.places.take(who, subject, news, unread)

@@ -10,4 +10,5 @@ mod Bounds
 mod Waiting
 mod CallSteps
 mod Hearing
+mod Digests
 pub mod Older

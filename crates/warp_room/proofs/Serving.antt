@@ -15,6 +15,9 @@ use Rattle.warp_room.specs.Room.{AreShownBefore, RoomState, history_of}
 use Rattle.warp_room.specs.Steps.{EndsTurn, EndsWork, NeedsAll, Serves, ServeEach}
 use Rattle.warp_room.proofs.ServedLines.{served_more}
 use Rattle.warp_room.proofs.ShownBefore.{shown_later}
+use Rattle.warp_room.proofs.Digests.{counted_later}
+use Rattle.warp_room.specs.Digested.{IsCounted}
+use Rattle.warp_digest.specs.Digest.{DigestState}
 use Rattle.warp_step.specs.Program.{Program}
 use Rattle.warp_record.specs.declared.record.Record.{Record}
 
@@ -32,14 +35,16 @@ module _ {T : Type 0} (facts : TimelineFacts T) where
   each_more (s ∷ served) one r r' r'' all last = (all.0, all.1, each_more served one all.0 r' r'' all.2 last)
 
   -- the invariant of a room whose replica answered a line
-  pub kept_served : (r r' : ReplicaState T) (made : List AnsweredLine) (one : AnsweredLine) (shown : ShownState)
-      → IsServed r.program r.records (history_of made) → AreShownBefore r.program r.records shown → AnswersLine facts r one.said one.answer r'
-      → IsServed r'.program r'.records (history_of (made ++ one ∷ [])) × AreShownBefore r'.program r'.records shown
-  kept_served r r' made one shown s begun a =
+  pub kept_served : (r r' : ReplicaState T) (made : List AnsweredLine) (one : AnsweredLine) (shown : ShownState) (digest : DigestState)
+      → IsServed r.program r.records (history_of made) → AreShownBefore r.program r.records shown → IsCounted r.records digest
+      → AnswersLine facts r one.said one.answer r' → IsServed r'.program r'.records (history_of (made ++ one ∷ []))
+      × AreShownBefore r'.program r'.records shown × IsCounted r'.records digest
+  kept_served r r' made one shown digest s begun counted a =
       let b = begins r.records one.answer.reply r'.records (grows r.program r.records one.said one.answer.reply r'.records a.given.gives) in (
         served_more facts r r' made one s a,
         subst (λ (P : Program). AreShownBefore P r'.records shown) (sym a.given.program)
             (subst (λ (l : List Record). AreShownBefore r.program l shown) (sym b.1) (shown_later r.program r.records b.0 shown begun)),
+        subst (λ (l : List Record). IsCounted l digest) (sym b.1) (counted_later r.records b.0 digest counted),
       )
 
   -- one line or none

@@ -2,4 +2,5 @@ pub mod Queues
 pub mod Room
 pub mod Steps
 pub mod Codes
+pub mod Digested
 pub mod Looks

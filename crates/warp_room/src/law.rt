@@ -3,6 +3,9 @@ ghost use Rattle.std.specs.Prelude.{◌≡◌, ◌≢◌, ◌≤◌, ◌+◌, �
 ghost use Rattle.std.specs.List.{AllByRecursion, IsDistinct};
 ghost use Rattle.warp_record.specs.declared.line.Line.{Line};
 ghost use Rattle.warp_record.specs.declared.record.Record.{Record};
+ghost use Rattle.warp_table.specs.Log.{EachOnce};
+ghost use Rattle.warp_table.specs.Records.{set_of};
+ghost use Rattle.warp_digest.specs.Digest.{digest_of};
 ghost use Rattle.warp_replica.specs.Answered.{facts_of};
 ghost use Rattle.warp_replica.specs.History.{IsHistory};
 ghost use Rattle.warp_room.specs.declared.answers.AnsweredLine.{AnsweredLine};
@@ -92,4 +95,10 @@ pub fn comers_are_new<T: Timeline>()
 pub fn records_once()
     ensures { (log more : List Record) (count most : ℕ) → count ≤ length log →
         take count log ++ take most (drop count (log ++ more)) ≡ take (count + most) (log ++ more) }
+{}
+
+/// Logs of the same records, each once, have one digest, whatever the order in which these came.
+pub fn one_digest()
+    ensures { (one other : List Record) → EachOnce one → EachOnce other → set_of one ≡ set_of other →
+        digest_of one ≡ digest_of other }
 {}

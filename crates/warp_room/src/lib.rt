@@ -7,6 +7,7 @@
 #![tactic(auto)]
 
 mod answers;
+mod digested;
 mod law;
 mod queues;
 mod records;
@@ -16,7 +17,10 @@ mod showing;
 mod tests;
 
 pub use answers::AnsweredLine;
-pub use law::{calls_are_steps, comers_are_new, few_wait, is_history, oldest_first, records_once};
+pub use digested::Digested;
+pub use law::{
+    calls_are_steps, comers_are_new, few_wait, is_history, oldest_first, one_digest, records_once,
+};
 pub use queues::Unheard;
 pub use room::{Room, Untold, Worked};
 pub use warp_line::Progress;

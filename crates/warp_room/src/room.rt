@@ -22,6 +22,7 @@ use crate::records::copy_behind;
 use std::alloc::Global;
 use std::collections::VecDeque;
 use std::marker::Model;
+use warp_digest::Digest;
 use warp_line::{Progress, Timeline};
 use warp_record::{Line, Look, Record, Refusal, Reply};
 use warp_replica::{Answer, Replica};
@@ -57,6 +58,7 @@ pub struct Room<T: Timeline> {
     pub(crate) queues: Queues,
     made: VecDeque<AnsweredLine>,
     pub(crate) shown: Shown,
+    pub(crate) digest: Digest,
     most_lines: u32,
     most_answers: u32,
 }
@@ -64,6 +66,7 @@ pub struct Room<T: Timeline> {
 impl<T: Timeline> Model for Room<T> {
     ghost use Rattle.warp_replica.specs.History.{IsServed};
     ghost use Rattle.warp_room.specs.Codes.{room_code};
+    ghost use Rattle.warp_room.specs.Digested.{IsCounted};
     ghost use Rattle.warp_room.specs.Room.{AreShownBefore, RoomState, history_of};
 
     ghost Value = { RoomState T };
@@ -82,7 +85,8 @@ impl<T: Timeline> Model for Room<T> {
 
     ghost invariant = { λ r.
         IsServed r.replica.program r.replica.records (history_of r.made.items)
-        × AreShownBefore r.replica.program r.replica.records r.shown };
+        × AreShownBefore r.replica.program r.replica.records r.shown
+        × IsCounted r.replica.records r.digest };
 }
 
 impl<T: Timeline> Room<T> {
@@ -103,6 +107,7 @@ impl<T: Timeline> Room<T> {
             queues: Queues::new(alloc),
             made: VecDeque::new(alloc),
             shown: Shown::new(alloc),
+            digest: Digest::new(alloc),
             most_lines,
             most_answers,
         }

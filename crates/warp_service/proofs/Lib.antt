@@ -6,3 +6,4 @@ pub mod PeerSteps
 pub mod TimerLemmas
 pub mod PlaceLemmas
 pub mod MoveLemmas
+pub mod SilenceLemmas

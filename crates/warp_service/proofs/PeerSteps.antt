@@ -1,8 +1,10 @@
 -- What is heard of a peer is steps, and steps go on from steps.
-use Rattle.std.proofs.Common.{◌≡◌, ◌∙◌, ℕ, ◌≤◌, Bool, true, false, List, [], ◌∷◌, ◌++◌, length, Option, None, refl, sym, ap, subst, inl, inr, arith}
-use Rattle.std.specs.Prelude.{nat_le, if◌then◌else◌}
+use Rattle.std.proofs.Common.{◌≡◌, ◌≢◌, ◌∙◌, ℕ, ◌<◌, ◌≤◌, ◌-◌, Bool, true, false, List, [], ◌∷◌, ◌++◌, length, take, drop, Option, None, Some, refl, sym, ap, subst, inl, inr, arith}
+use Rattle.std.specs.Prelude.{is_some, nat_le, if◌then◌else◌}
+use Rattle.std.proofs.lemmas.Bool.Decides.{nat_tests}
 use Rattle.std.specs.List.{before_first}
-use Rattle.std.proofs.lemmas.List.{append_assoc, append-nil, length-take}
+use Rattle.std.proofs.lemmas.List.{append_assoc, append-nil, length-drop, length-take}
+use Rattle.std.proofs.Math.Seq.{take-length}
 use Rattle.warp_tag.specs.Limits.{longest_line}
 use Rattle.warp_record.specs.Lines.{ended, first_end, is_end}
 use Rattle.warp_record.specs.Lines.Piece.{Whole, Long}
@@ -10,13 +12,15 @@ use Rattle.warp_record.specs.Record.{record_spelling}
 use Rattle.warp_hub.specs.Follow.{Counts, FollowState, Hears as HearsLine, HearsPiece}
 use Rattle.warp_hub.specs.declared.follow.PeerEvent.{PeerEvent}
 use Rattle.warp_hub.specs.declared.follow.Phase.{Phase}
+use Rattle.warp_hub.specs.declared.follow.Phase.TheVariants.{Over as NotDue}
 use Rattle.warp_service.specs.declared.contact.Contact.{Contact}
 use Rattle.warp_service.specs.declared.news.NewsOfPeer.{NewsOfPeer}
 use Rattle.warp_service.specs.declared.contact.Due.TheVariants.{Nothing, Try, Question}
 use Rattle.warp_service.specs.declared.contact.Way.{Way}
 use Rattle.warp_service.specs.declared.contact.Way.TheVariants.{Waits, Sought, Begun, Open}
 use Rattle.warp_service.specs.Contact.{Stays, due_now, due_of, is_waiting}
-use Rattle.warp_service.specs.Peers.{FollowDoes, FollowRuns, FollowStep, Goes, Hears, HearsOn, PeerState, Questions, Settles, lines_in, question}
+use Rattle.warp_service.specs.Peers.{FindsLine, FollowDoes, FollowRuns, FollowStep, Goes, Hears, HearsNext, HearsOn, PeerState, Questions, Settles, TakesLine, has_end, lines_in, most_handed, questioned}
+use Rattle.warp_service.specs.Comparing.{asks_digest}
 use Rattle.warp_service.specs.Peers.FollowStep.{Told, Answered, Returned, Spoke}
 
 runs_joined : (first second : List FollowStep) (f between f' : FollowState) → FollowRuns first f between → FollowRuns second between f'
@@ -212,6 +216,30 @@ heard_came p p' c kept broken e stays =
     subst (λ (x : PeerState). HearsOn p x) (sym e)
     (hears_nothing p (record p { contact = c; kept = kept; broken = broken }) refl refl stays refl refl refl)
 
+pub take_rest : (bytes : List ℕ) (kept : ℕ) → take (length bytes - kept) (drop kept bytes) ≡ drop kept bytes
+take_rest bytes kept = ap (λ n. take n (drop kept bytes)) (sym (length-drop kept bytes)) ∙ take-length (drop kept bytes)
+
+-- a line was heard, and what came of it noted
+pub taken_line : (bytes : List ℕ) (p p' : PeerState) (follower : FollowState) (handed : List ℕ) (event : Option PeerEvent)
+    → HearsPiece p.follower (ended (before_first is_end bytes)) p.handed event follower handed
+    → p'.follower ≡ follower → p'.handed ≡ handed → TakesLine bytes p p'
+taken_line bytes p p' follower handed event heard same lines = (
+  event,
+  subst (λ (f : FollowState). HearsPiece p.follower (ended (before_first is_end bytes)) p.handed event f p'.handed) (sym same)
+      (subst (λ h. HearsPiece p.follower (ended (before_first is_end bytes)) p.handed event follower h) (sym lines) heard),
+)
+
+-- what is found of a line is heard of it, of a connection that is followed while few lines wait
+pub hears_found : (p : PeerState) (found : Option ℕ) (bytes : List ℕ) → p.broken ≡ false → p.follower.phase ≢ NotDue →
+    length p.handed < most_handed → FindsLine found bytes → HearsNext p found bytes
+hears_found p None bytes whole due few none = inr (inr (inr none))
+hears_found p (Some count) bytes whole due few found = (found.0, found.1, whole, due, few)
+
+-- whether a line is found is whether one ends
+pub has_end_by : (found : Option ℕ) (bytes : List ℕ) → FindsLine found bytes → is_some found ≡ has_end bytes
+has_end_by None bytes none = grind (none, nat_tests, arith)
+has_end_by (Some count) bytes found = grind (found.1, nat_tests, arith)
+
 none_waits : (now : ℕ) (b : Bool) → (if b then Try else Nothing) ≡ Question → ⊥
 none_waits now true e = grind (e, arith)
 none_waits now false e = grind (e, arith)
@@ -223,12 +251,12 @@ there_by now c (Begun since) e = refl
 there_by now c (Open since) e = refl
 
 -- a question, which is one where there is a connection
-pub heard_question : (now : ℕ) (p p' : PeerState) → due_now now p.contact ≡ Question → Questions now p p' → Hears now p p'
-heard_question now p p' due (inl e) = (
+pub heard_question : (now : ℕ) (own : Option ℕ) (p p' : PeerState) → due_now now p.contact ≡ Question → Questions now own p p' → Hears now p p'
+heard_question now own p p' due (inl e) = (
   p',
   subst (λ (x : PeerState). HearsOn p x) (sym e)
-      (hears_nothing p (record p { said = p.said ++ question; contact = record p.contact { is_questioned = true } }) refl refl
+      (hears_nothing p (questioned (asks_digest own p.follower p.compared) p) refl refl
       (record { number = refl; way = refl; losses = refl }) refl refl refl),
   settles_not now p',
 )
-heard_question now p p' due (inr e) = (p, heard_none p, inl (there_by now p.contact p.contact.way due, e))
+heard_question now own p p' due (inr e) = (p, heard_none p, inl (there_by now p.contact p.contact.way due, e))

@@ -104,6 +104,10 @@ opened now c = record c { way = Open now; heard = now; is_wanted = false }
 abbrev pub asked_later : ℕ → Contact → Contact
 asked_later now c = record c { asks_at = if is_none c.asks_at then Some (later now level_pause) else c.asks_at }
 
+-- it is asked again behind a pause from now on, or not at all
+abbrev pub IsAskedLater : ℕ → Option ℕ → Type 0
+IsAskedLater now asks = (asks ≡ None) ⊎ (asks ≡ Some (later now level_pause))
+
 -- whether a host is to be asked a question: it has said nothing for long, and none is under way
 abbrev pub is_quiet : ℕ → Contact → Bool
 is_quiet now c = c.is_wanted && c.is_host && not c.is_questioned && nat_le (later c.heard longest_quiet) now

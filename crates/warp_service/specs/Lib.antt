@@ -3,3 +3,4 @@ pub mod Contact
 pub mod Timers
 pub mod News
 pub mod Peers
+pub mod Comparing

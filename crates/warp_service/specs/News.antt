@@ -1,5 +1,6 @@
 -- What an operator is told of a peer, and when.
-use Rattle.std.specs.Prelude.{◌≡◌, ◌≢◌, ◌⊎◌, ℕ, ◌+◌, ◌<◌, ◌≤◌, Bool, true, false, min, is_some, not, ◌||◌, ◌==◌, Option, Some, None, if◌then◌else◌}
+use Rattle.std.specs.Prelude.{◌≡◌, ◌≢◌, ◌⊎◌, ℕ, ◌+◌, ◌<◌, ◌≤◌, Bool, true, false, min, is_some, not, ◌&&◌, ◌||◌, ◌==◌, nat_lt, Option, Some, None, if◌then◌else◌}
+use Rattle.std.specs.Prelude.{List, [], ◌∷◌, ◌++◌, length}
 use Rattle.warp_hub.specs.declared.follow.PeerEvent.{PeerEvent}
 use Rattle.warp_hub.specs.declared.follow.PeerEvent.TheVariants.{Found, Refused}
 use Rattle.warp_service.specs.declared.news.NewsOfPeer.{NewsOfPeer}
@@ -40,13 +41,21 @@ abbrev pub is_refusal : PeerEvent → Bool
 is_refusal (Refused place refusal) = true
 is_refusal event = false
 
+-- so many refused records wait to be told at most
+abbrev pub most_refused : ℕ
+most_refused = 16
+
+-- one more of them waits behind the others, where there is room
+abbrev pub behind_refused : PeerEvent → List PeerEvent → List PeerEvent
+behind_refused event refused = if nat_lt (length refused) most_refused then refused ++ event ∷ [] else refused
+
 -- What its follower says: a reason why it is not followed, or that it is, or that a record of it was refused, which waits
 -- behind the others that were, where there is room.
 abbrev pub WithEvent : PeerEvent → NewsOfPeer → NewsOfPeer → Type 0
 WithEvent event n n' =
     (is_reason event ≡ true → WithReason event n n')
-    × (is_reason event ≡ false → (n' ≡ with_start (is_start event) (noted (Event event) n))
-    ⊎ ((is_refusal event ≡ true) × (n' ≡ record n { refused = n'.refused })))
+    × (is_reason event ≡ false → n' ≡ (if is_refusal event && nat_lt (length n.refused) most_refused
+    then record n { refused = behind_refused event n.refused } else with_start (is_start event) (noted (Event event) n)))
 
 -- what the loss of a connection is called
 abbrev pub loss_of : Bool → PeerNews
@@ -63,17 +72,23 @@ behind_last (Some told) = later told news_pause
 
 -- whether something waits to be told
 abbrev pub waits_some : NewsOfPeer → Bool
-waits_some n = is_some n.waits || not (n.refused.count == 0)
+waits_some n = is_some n.waits || not (length n.refused == 0)
 
 -- the moment at which what waits is told
 abbrev pub news_moment : NewsOfPeer → ℕ
 news_moment n = if waits_some n then behind_last n.told_at else never
 
--- What is told now: what waits, with how many were left out, if its moment has come; else nothing changes.
+-- nothing is to be told yet: nothing waits, or its moment has not come
+abbrev pub IsUntold : ℕ → NewsOfPeer → Type 0
+IsUntold now n = (waits_some n ≡ false) ⊎ (now < news_moment n)
+
+-- What is told now, if its moment has come: the first of the refused records, and where there is none what waits, with how
+-- many were left out; else nothing changes.
 abbrev pub TellsNews : ℕ → Option (PeerNews × ℕ) → NewsOfPeer → NewsOfPeer → Type 0
-TellsNews now None n n' = (n' ≡ n) × ((waits_some n ≡ false) ⊎ (now < news_moment n))
+TellsNews now None n n' = (n' ≡ n) × IsUntold now n
 TellsNews now (Some (news, left)) n n' =
     (behind_last n.told_at ≤ now)
     × (n' ≡ record n { refused = n'.refused; waits = n'.waits; left_out = n'.left_out; told_at = Some now })
-    × (((n.waits ≡ Some news) × (n.left_out ≡ left) × (n'.waits ≡ None) × (n'.left_out ≡ 0))
-    ⊎ ((left ≡ 0) × (n'.waits ≡ n.waits) × (n'.left_out ≡ n.left_out)))
+    × (((n.refused ≡ []) × (n'.refused ≡ []) × (n.waits ≡ Some news) × (n.left_out ≡ left) × (n'.waits ≡ None) × (n'.left_out ≡ 0))
+    ⊎ ((event : PeerEvent) × (news ≡ Event event) × (n.refused ≡ event ∷ n'.refused) × (left ≡ 0) × (n'.waits ≡ n.waits)
+    × (n'.left_out ≡ n.left_out)))

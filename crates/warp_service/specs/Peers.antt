@@ -1,28 +1,34 @@
 -- A peer that is followed: what its calls do to the places of its log, and to the way to it.
-use Rattle.std.specs.Prelude.{◌≡◌, ◌⊎◌, ℕ, ◌+◌, ◌-◌, ◌<◌, Bool, true, false, nat_lt, IsTrue, List, [], ◌∷◌, ◌++◌, length, codes, drop, Option, Some, None, if◌then◌else◌}
+use Rattle.std.specs.Prelude.{◌≡◌, ◌≢◌, ◌⊎◌, ℕ, ◌+◌, ◌-◌, ◌<◌, ◌≤◌, Bool, true, false, nat_eq, nat_lt, IsTrue, List, [], ◌∷◌, ◌++◌, length, codes, drop, Option, Some, None, if◌then◌else◌}
 use Rattle.warp_tag.specs.declared.form.Form.{Form}
 use Rattle.warp_record.specs.declared.record.Record.{Record}
 use Rattle.warp_record.specs.Record.{record_spelling}
-use Rattle.warp_record.specs.Lines.{kept_of}
-use Rattle.warp_hub.specs.Follow.{FollowState, TellsRecord, follows, unconnected}
+use Rattle.std.specs.List.{before_first, starts_with}
+use Rattle.warp_record.specs.Lines.{ended, first_end, is_end, kept_of}
+use Rattle.warp_hub.specs.Follow.{FollowState, HearsPiece, TellsRecord, follows, unconnected}
+use Rattle.warp_hub.specs.declared.follow.PeerEvent.{PeerEvent}
 use Rattle.warp_hub.specs.declared.follow.Phase.TheVariants.{Over as NotDue}
+use Rattle.warp_service.specs.declared.comparing.Compared.{Compared}
 use Rattle.warp_service.specs.declared.contact.Contact.{Contact}
 use Rattle.warp_service.specs.declared.news.NewsOfPeer.{NewsOfPeer}
 use Rattle.warp_service.specs.declared.action.PeerAction.{PeerAction}
 use Rattle.warp_service.specs.declared.action.PeerAction.TheVariants.{Close, Tell, Seek, Connect, Send, Hear}
 use Rattle.warp_service.specs.Contact.{Stays, begun, is_number, is_open, is_sought, is_tried, is_waiting, lost, opened, tried}
-use Rattle.warp_service.specs.News.{TellsNews, with_loss}
+use Rattle.warp_service.specs.Comparing.{asks_digest, parted}
+use Rattle.warp_service.specs.News.{IsUntold, TellsNews, with_loss}
 
--- The way to the peer; how far its log is followed; what is to be sent to it; lines for the room that were not taken; bytes
--- of it that were not heard; what its operator is told; which connection is to be closed; whether one is to be made; whether
+-- Its name; the way to the peer; how far its log is followed; what is to be sent to it; lines for the room that were not taken; bytes
+-- of it that were not heard; what its operator is told; how its log compares; which connection is to be closed; whether one is to be made; whether
 -- it is known that something is to be sent; whether what it said was no line.
 pub record PeerState : Type 0 where
+  pub name : List ℕ
   pub contact : Contact
   pub follower : FollowState
   pub said : List ℕ
   pub handed : List ℕ
   pub kept : List ℕ
   pub news : NewsOfPeer
+  pub compared : Compared
   pub closes : Option ℕ
   pub connects : Bool
   pub sending : Bool
@@ -84,6 +90,7 @@ forgotten now p = record p {
   said = [];
   kept = [];
   news = with_loss (is_open p.contact.way) p.news;
+  compared = parted p.compared;
   connects = false;
   sending = false;
   broken = false;
@@ -116,9 +123,44 @@ with_end now number p = if is_number number p.contact then given_up now p else p
 abbrev pub most_handed : ℕ
 most_handed = 8192
 
--- what a host is asked that says nothing
-abbrev pub question : List ℕ
-question = codes "program\n"
+-- whether a line ends among these bytes
+abbrev pub has_end : List ℕ → Bool
+has_end bytes = nat_lt (first_end bytes) (length bytes)
+
+-- how many bytes the line at the front of these has, with its line feed; none where it has none
+abbrev pub FindsLine : Option ℕ → List ℕ → Type 0
+FindsLine None bytes = first_end bytes ≡ length bytes
+FindsLine (Some count) bytes = (count ≡ first_end bytes + 1) × (first_end bytes < length bytes)
+
+-- no line at the front of these bytes is heard: the connection is to be given up, many lines wait for the room, or none of
+-- them is whole
+abbrev pub IsStopped : PeerState → List ℕ → Type 0
+IsStopped p bytes =
+    (p.broken ≡ true) ⊎ ((p.follower.phase ≡ NotDue) ⊎ ((most_handed ≤ length p.handed) ⊎ (first_end bytes ≡ length bytes)))
+
+-- the line at the front of these bytes is heard now, which is whole, of a connection that is followed and is not to be given up,
+-- while few lines wait for the room; or why none is
+abbrev pub HearsNext : PeerState → Option ℕ → List ℕ → Type 0
+HearsNext p None bytes = IsStopped p bytes
+HearsNext p (Some count) bytes = (count ≡ first_end bytes + 1) × (first_end bytes < length bytes)
+    × (p.broken ≡ false) × (p.follower.phase ≢ NotDue) × (length p.handed < most_handed)
+
+-- whether a line is a push of a host
+abbrev pub is_push : List ℕ → Bool
+is_push bytes = starts_with nat_eq bytes (codes "* ")
+
+-- the line at the front of these bytes was heard by who follows the peer's log
+abbrev pub TakesLine : List ℕ → PeerState → PeerState → Type 0
+TakesLine bytes p p' = (event : Option PeerEvent)
+    × HearsPiece p.follower (ended (before_first is_end bytes)) p.handed event p'.follower p'.handed
+
+-- no whole line waits to be heard while few lines wait for the room
+abbrev pub IsHeard : PeerState → Type 0
+IsHeard p = length p.handed < most_handed → first_end p.kept ≡ length p.kept
+
+-- what a host is asked that is quiet: for its digest, or what says nothing
+abbrev pub question_for : Bool → List ℕ
+question_for asks = if asks then codes "digest\n" else codes "program\n"
 
 -- The connection is there: what is said first is to be sent, and the first record that was not answered comes next; or there
 -- was no memory, and it is given up.
@@ -129,10 +171,17 @@ Opens now p p' =
     ⊎ ((between : PeerState) × (between ≡ record p { follower = between.follower; said = between.said })
     × (unconnected between.follower ≡ unconnected p.follower) × (p' ≡ given_up now between))
 
+-- nothing is wanted of a connection that is there: it is known that what is to be sent is to be sent, and bytes are wanted
+-- already, or many wait
+abbrev pub IsStill : PeerState → Type 0
+IsStill p = is_open p.contact.way ≡ true →
+    ((p.said ≡ []) ⊎ (p.sending ≡ true)) × ((p.contact.is_wanted ≡ true) ⊎ (most_handed ≤ length p.handed))
+
 -- What is wanted now, each once: that a connection is closed, that an operator is told something, that the address is sought,
 -- that a connection is made, that something is sent, that bytes are heard again.
 abbrev pub Acts : ℕ → Option PeerAction → PeerState → PeerState → Type 0
-Acts now None p p' = (p' ≡ p) × (p.closes ≡ None) × (is_tried now p.contact.way ≡ false) × (p.connects ≡ false)
+Acts now None p p' =
+    (p' ≡ p) × (p.closes ≡ None) × (is_tried now p.contact.way ≡ false) × (p.connects ≡ false) × IsUntold now p.news × IsStill p
 Acts now (Some (Close number)) p p' = (p.closes ≡ Some number) × (p' ≡ record p { closes = None })
 Acts now (Some (Tell news left)) p p' =
     TellsNews now (Some (news, left)) p.news p'.news × (p' ≡ record p { news = p'.news })
@@ -142,9 +191,10 @@ Acts now (Some (Connect number)) p p' =
     IsTrue p.connects × (number ≡ p.contact.number) × (p.closes ≡ None) × (p' ≡ record p { connects = false })
 Acts now (Some (Send number)) p p' =
     IsTrue (is_open p.contact.way) × (number ≡ p.contact.number) × (p' ≡ record p { sending = true })
+    × (p.said ≢ []) × (p.sending ≡ false)
 Acts now (Some (Hear number)) p p' =
     IsTrue (is_open p.contact.way) × (number ≡ p.contact.number) × (length p.handed < most_handed)
-    × (p' ≡ record p { contact = record p.contact { heard = now; is_wanted = true } })
+    × (p' ≡ record p { contact = record p.contact { heard = now; is_wanted = true } }) × (p.contact.is_wanted ≡ false)
 
 -- so many bytes of what is to be sent by the connection of this number were sent
 abbrev pub with_sent : ℕ → ℕ → PeerState → PeerState
@@ -153,10 +203,18 @@ with_sent number count p = record p {
   sending = if is_number number p.contact then nat_lt count (length p.said) else p.sending;
 }
 
--- a host that is quiet is asked a question, or there was no memory for it, and it is given up
-abbrev pub Questions : ℕ → PeerState → PeerState → Type 0
-Questions now p p' =
-    (p' ≡ record p { said = p.said ++ question; contact = record p.contact { is_questioned = true } }) ⊎ (p' ≡ given_up now p)
+-- a host that is quiet is asked this question
+abbrev pub questioned : Bool → PeerState → PeerState
+questioned asks p = record p {
+  said = p.said ++ question_for asks;
+  contact = record p.contact { is_questioned = true };
+  compared = record p.compared { asks = asks };
+}
+
+-- A host that is quiet is asked a question, or there was no memory for it, and it is given up. The own log has had so many
+-- records for a while, if that is said.
+abbrev pub Questions : ℕ → Option ℕ → PeerState → PeerState → Type 0
+Questions now own p p' = (p' ≡ questioned (asks_digest own p.follower p.compared) p) ⊎ (p' ≡ given_up now p)
 
 -- the place of the first record that was not answered
 abbrev pub first_open : FollowState → ℕ

@@ -226,7 +226,7 @@ impl Contact {
         self.way = Way::Waits(later(now, pause_behind(losses)));
         self.losses = losses.min(MOST_LOSSES - 1) + 1;
         self.has_brought = false;
-        self.asks_at = None;
+        self.note_asked();
         self.is_questioned = false;
         self.is_host = false;
         self.is_wanted = false;

@@ -1,7 +1,9 @@
 //! Laws: what the events come to, in whatever order they happen.
-ghost use Rattle.std.specs.Prelude.{◌≡◌, ◌⊎◌, ◌+◌, ◌<◌, ◌≤◌, ◌≢◌, ℕ, Bool, IsTrue, List, Option, Some, false, min, true};
-ghost use Rattle.warp_service.specs.Contact.{IsReached, Loses, MovesOn, MovesThrough, is_begun, is_waiting, later, lost, most_losses, pause_behind};
+ghost use Rattle.std.specs.Prelude.{◌≡◌, ◌⊎◌, ◌+◌, ◌<◌, ◌≤◌, ◌≢◌, ℕ, Bool, IsTrue, List, None, Option, Some, false, min, true};
+ghost use Rattle.warp_service.specs.Contact.{IsReached, Loses, MovesOn, MovesThrough, due_now, is_begun, is_waiting, later, longest_quiet, longest_silence};
+ghost use Rattle.warp_service.specs.Contact.{lost, most_losses, next_of, pause_behind};
 ghost use Rattle.warp_service.specs.declared.contact.Contact.{Contact};
+ghost use Rattle.warp_service.specs.declared.contact.Due.{Due};
 ghost use Rattle.warp_service.specs.declared.contact.Way.{Way};
 ghost use Rattle.warp_hub.specs.Follow.{FollowState, follows, unconnected};
 ghost use Rattle.warp_record.specs.declared.record.Record.{Record};
@@ -37,6 +39,19 @@ pub fn pauses_hold()
         (after.way ≡ Way.Waits until) ⊎ IsReached until events }
     ensures lost { (now : ℕ) (c : Contact) → is_waiting c.way ≡ false → Loses now c (lost now c) }
     ensures counted { (losses : ℕ) → pause_behind (min most_losses losses) ≡ pause_behind losses }
+{}
+
+/// A peer that is gone is noticed, though no end of its connection comes. While its bytes are wanted, the next moment of a
+/// connection is no later than fifteen seconds behind its last line, and from then on it is to be given up; a host that is
+/// followed is to be asked a question from five seconds behind it on, if none is under way.
+pub fn silence_is_noticed()
+    ensures looked { (since : ℕ) (c : Contact) → c.way ≡ Way.Open since → c.is_wanted ≡ true →
+        next_of c c.way ≤ later c.heard longest_silence }
+    ensures asked { (now since : ℕ) (c : Contact) → c.way ≡ Way.Open since → c.is_wanted ≡ true → c.is_host ≡ true →
+        c.is_questioned ≡ false → c.asks_at ≡ None → later c.heard longest_quiet ≤ now → now < later c.heard longest_silence →
+        due_now now c ≡ Due.Question }
+    ensures over { (now since : ℕ) (c : Contact) → c.way ≡ Way.Open since → c.is_wanted ≡ true →
+        later c.heard longest_silence ≤ now → due_now now c ≡ Due.Over }
 {}
 
 /// Two lines about one peer are told a second apart at least, whatever was noted between them.

@@ -80,8 +80,8 @@ impl Lengths {
     pub fn note_written(&mut self, file: u32, count: u32)
         ensures { self.new ≡ with_written file count self.old }
     {
-        if self.is_trusted(file) {
-            self.written = self.written.max(count);
+        if self.is_trusted(file) && count > self.written {
+            self.written = count;
         }
     }
 
@@ -133,7 +133,7 @@ impl Lengths {
     pub fn note_failed(&mut self)
         ensures { self.new ≡ record self.old { failing = true; failed = true } }
     {
-        self.is_failing = true;
+        self.note_failing();
         self.has_failed = true;
     }
 

@@ -4,6 +4,7 @@
 #![tactic(auto)]
 
 mod action;
+mod comparing;
 mod contact;
 mod laws;
 mod lengths;
@@ -15,9 +16,11 @@ mod tests;
 mod timers;
 
 pub use action::PeerAction;
+pub use comparing::{Compared, ToldDigest, read_digest};
 pub use contact::{Contact, Due, Way};
 pub use laws::{
     calls_move, limit_is_said, limit_only_grows, lines_apart, pauses_hold, places_are_kept,
+    silence_is_noticed,
 };
 pub use lengths::{Lengths, Tells};
 pub use news::{NewsOfPeer, PeerNews, RefusedRecords};

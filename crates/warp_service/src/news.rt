@@ -1,9 +1,12 @@
 //! What an operator is told of a peer: a line each second at most. Of what comes faster the newest is told when the second
 //! is over, with how many were left out; but each record of it that was refused is told, as it comes once for each reason.
-ghost use Rattle.std.specs.Prelude.{◌≡◌, ◌≢◌, ◌==◌, Option, Some, None, true, false};
-ghost use Rattle.warp_service.specs.News.{TellsNews, WithEvent, WithReason, is_reason, is_refusal, is_start, news_moment, noted, with_loss};
+ghost use Rattle.std.specs.Prelude.{◌≡◌, ◌≢◌, ◌++◌, ◌∷◌, ◌==◌, [], length, nat_lt, Option, Some, None, true, false, if◌then◌else◌};
+ghost use Rattle.std.specs.Prelude.{IfSome, IfNone};
+ghost use Rattle.warp_service.specs.News.{TellsNews, WithEvent, WithReason, behind_refused, is_reason, is_refusal, is_start, most_refused};
+ghost use Rattle.warp_service.specs.News.{news_moment, noted, with_loss};
 
 use crate::contact::{NEVER, later};
+use std::marker::Model;
 use warp_hub::PeerEvent;
 
 /// The least time between two lines of one peer, in microseconds.
@@ -23,16 +26,29 @@ pub enum PeerNews {
 /// So many refused records wait to be told at most: there are no more reasons.
 const MOST_REFUSED: usize = 16;
 
-/// Records of a peer that were refused, in the order in which they are told: the first so many of these.
-#[derive(Clone, Copy, Debug)]
+/// Records of a peer that were refused, in the order in which they are told. Contracts see them as a list.
+#[derive(Drop)]
 pub struct RefusedRecords {
     events: [PeerEvent; MOST_REFUSED],
     count: usize,
 }
 
+impl Model for RefusedRecords {
+    ghost use Rattle.std.specs.Prelude.{◌≡◌, ◌≤◌, List, length, take};
+    ghost use Rattle.warp_hub.specs.declared.follow.PeerEvent.{PeerEvent};
+
+    ghost Value = { List PeerEvent };
+
+    ghost view = { λ r. take r.count r.events };
+
+    ghost invariant = { λ r. (length r.events ≡ 16) × (r.count ≤ 16) };
+}
+
 impl RefusedRecords {
     /// None.
-    fn new() -> RefusedRecords {
+    fn new() -> RefusedRecords
+        ensures { result ≡ [] }
+    {
         RefusedRecords {
             events: [PeerEvent::Untold; MOST_REFUSED],
             count: 0,
@@ -40,38 +56,46 @@ impl RefusedRecords {
     }
 
     /// Whether one more may wait.
-    fn has_room(&self) -> bool {
+    fn has_room(&self) -> bool
+        ensures { result ≡ nat_lt (length self.now) most_refused }
+    {
         self.count < MOST_REFUSED
     }
 
     /// This one waits behind the others, where there is room.
-    fn push(&mut self, event: PeerEvent) {
+    fn push(&mut self, event: PeerEvent)
+        ensures { self.new ≡ behind_refused event self.old }
+    {
         if self.count < MOST_REFUSED {
             self.events[self.count] = event;
             self.count += 1;
         }
     }
 
-    /// Takes the first off.
-    fn pop(&mut self) -> PeerEvent {
-        let first = self.events[0];
-        for at in 1..MOST_REFUSED {
-            self.events[at - 1] = self.events[at];
+    /// Takes the first off, if there is one.
+    fn pop(&mut self) -> Option<PeerEvent>
+        ensures some { IfSome result (λ event. self.old ≡ event ∷ self.new) }
+        ensures none { IfNone result ((self.old ≡ []) × (self.new ≡ [])) }
+    {
+        if self.count == 0 {
+            return None;
         }
-        self.count = self.count.saturating_sub(1);
-        first
+        let first = self.events[0];
+        self.events.copy_within(1.., 0);
+        self.count -= 1;
+        Some(first)
     }
 
     /// Whether there is none.
     fn is_empty(&self) -> bool
-        ensures { result ≡ (self.now.count == 0) }
+        ensures { result ≡ (length self.now == 0) }
     {
         self.count == 0
     }
 }
 
 /// What is to be told of a peer.
-#[derive(Clone, Copy, Debug)]
+#[derive(Drop)]
 pub struct NewsOfPeer {
     /// Records of it that were refused, which are told first.
     pub refused: RefusedRecords,
@@ -92,7 +116,7 @@ pub struct NewsOfPeer {
 impl NewsOfPeer {
     /// Nothing came of it.
     pub fn new() -> NewsOfPeer
-        ensures { result ≡ record { refused = result.refused; waits = None; left_out = 0; told_at = None; is_found = false; reason = None; is_loss_noted = false } }
+        ensures { result ≡ record { refused = []; waits = None; left_out = 0; told_at = None; is_found = false; reason = None; is_loss_noted = false } }
     {
         NewsOfPeer {
             refused: RefusedRecords::new(),
@@ -189,8 +213,7 @@ impl NewsOfPeer {
         if self.next_moment() > now {
             return None;
         }
-        if !self.refused.is_empty() {
-            let refused = self.refused.pop();
+        if let Some(refused) = self.refused.pop() {
             self.told_at = Some(now);
             return Some((PeerNews::Event(refused), 0));
         }

@@ -59,12 +59,16 @@ pub enum Note {
     NoDescriptors(u64),
     /// So many clients were too slow.
     Slow(u64),
+    /// So many clients were closed that had brought no token.
+    Tokenless(u64),
     /// So many requests of pages were refused.
     Forbidden(u64),
     /// The log is full.
     LogFull,
     /// The host ends with its input.
     InputEnded,
+    /// The host ends since its operator wants that.
+    Stopped,
     /// What came of a peer.
     Peer {
         /// The peer, by its number.
@@ -74,6 +78,8 @@ pub enum Note {
         /// How many lines about it were left out.
         left_out: u64,
     },
+    /// The log of the peer of this number has as many records as the own one, and not the same.
+    PeerDiffers(u32),
     /// The journal can't be written.
     JournalFails(JournalFault),
     /// The journal is not written anew.
@@ -115,6 +121,7 @@ impl<'a> fmt::Display for NoteText<'a> {
             Note::Peer { news, left_out, .. } => {
                 write_peer(f, self.named.peer, news, LeftOut(left_out))
             }
+            Note::PeerDiffers(_) => write_differing(f, self.named.peer),
             Note::JournalFails(fault) => write_failing(f, fault),
             Note::JournalNotRenewed(fault) => write_not_renewed(f, fault),
             Note::JournalRenewed(count) => {
@@ -180,14 +187,19 @@ fn write_other<W: fmt::Write>(f: &mut fmt::Formatter<W>, note: Note) -> fmt::Res
             )
         }
         Note::Slow(slow) => write!(f, "clients closed: {slow}, they read too slowly"),
+        Note::Tokenless(closed) => {
+            write!(f, "clients closed: {closed}, they brought no token in time")
+        }
         Note::Forbidden(forbidden) => write!(
             f,
             "pages refused: {forbidden}, their origin or the host's name in their requests is not allowed (see --allow-origin)"
         ),
         Note::LogFull => f.write_str("the log is full: no further record is taken"),
         Note::InputEnded => f.write_str("standard input ended: the host ends"),
+        Note::Stopped => f.write_str("stopped by its operator: the host ends"),
         Note::Started { .. }
         | Note::Peer { .. }
+        | Note::PeerDiffers(_)
         | Note::JournalFails(_)
         | Note::JournalNotRenewed(_)
         | Note::JournalRenewed(_)
@@ -207,6 +219,14 @@ impl fmt::Display for LeftOut {
         }
         write!(f, " ({count} lines about it left out)")
     }
+}
+
+/// Writes that a peer's log has other records.
+fn write_differing<W: fmt::Write>(f: &mut fmt::Formatter<W>, name: &str) -> fmt::Result {
+    write!(
+        f,
+        "peer {name} differs: it has as many records, and not the same (see digest)"
+    )
 }
 
 /// Writes what came of a peer, of which so many lines were left out.

@@ -80,14 +80,14 @@ fn fall_silent(peer: &mut Peer) -> Result<(), Fail> {
     if peer.answers(b"taken 1\n", 0) != 8 || peer.next_moment() != 5 * SECOND {
         return Err("another moment".into());
     }
-    peer.tick(5 * SECOND);
+    peer.tick(5 * SECOND, None);
     says(peer, b"program\n")?;
     peer.bytes(1, b"program 1 here\n* log 2 event 0 6 0 0 4\n", 6 * SECOND);
     if peer.lines() != b"event 0 6 0 0 4\n".as_slice() || peer.next_moment() != 11 * SECOND {
         return Err("another record behind the question".into());
     }
-    peer.tick(11 * SECOND);
-    peer.tick(21 * SECOND);
+    peer.tick(11 * SECOND, None);
+    peer.tick(21 * SECOND, None);
     wants(peer, 21 * SECOND, PeerAction::Close(1))?;
     wants(peer, 21 * SECOND, PeerAction::Tell(PeerNews::Lost, 0))?;
     if peer.next_moment() != 21 * SECOND + 100 * MILLISECOND {
@@ -139,11 +139,16 @@ const WORDS: &[(Note, &str)] = &[
     ),
     (Note::Slow(1), "clients closed: 1, they read too slowly"),
     (
+        Note::Tokenless(3),
+        "clients closed: 3, they brought no token in time",
+    ),
+    (
         Note::Forbidden(1),
         "pages refused: 1, their origin or the host's name in their requests is not allowed (see --allow-origin)",
     ),
     (Note::LogFull, "the log is full: no further record is taken"),
     (Note::InputEnded, "standard input ended: the host ends"),
+    (Note::Stopped, "stopped by its operator: the host ends"),
     (
         Note::Peer {
             peer: 0,

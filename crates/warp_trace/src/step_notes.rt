@@ -121,6 +121,11 @@ impl<L: Ledger> StepNotes<L> {
         self.steps
     }
 
+    /// How many of them are not after the last tag that was done before.
+    pub fn again(&self) -> u64 {
+        self.again
+    }
+
     /// How many of them were left out.
     pub fn left_out(&self) -> u64 {
         self.left_out

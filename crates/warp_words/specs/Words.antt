@@ -88,14 +88,14 @@ abbrev pub trace_command : App
 trace_command = with_rule (with_rule (new_app (codes "trace")) (wanted_word (codes "PROGRAM"))) (flag (codes "steps"))
 
 -- `host` with PROGRAM, `--listen`, `--clients`, `--tokens`, `--allow-origin`, `--peer`, `--peer-tokens`, `--open`,
--- `--until-input-ends`, `--journal` and `--sync`
+-- `--until-input-ends`, `--operator`, `--journal` and `--sync`
 abbrev pub host_command : App
 host_command =
-    with_rule (with_rule (with_rule (with_rule (with_rule (with_rule (with_rule (with_rule (with_rule (with_rule (with_rule (new_app (codes "host"))
+    with_rule (with_rule (with_rule (with_rule (with_rule (with_rule (with_rule (with_rule (with_rule (with_rule (with_rule (with_rule (new_app (codes "host"))
     (wanted_word (codes "PROGRAM"))) (further_word (codes "listen"))) (further_number (codes "clients") most_clients))
     (further_word (codes "tokens"))) (further_words (codes "allow-origin"))) (further_words (codes "peer")))
     (further_word (codes "peer-tokens"))) (flag (codes "open"))) (flag (codes "until-input-ends")))
-    (further_word (codes "journal"))) (further_word (codes "sync"))
+    (flag (codes "operator"))) (further_word (codes "journal"))) (further_word (codes "sync"))
 
 -- `journal` with ACTION and FILE
 abbrev pub journal_command : App
@@ -115,7 +115,8 @@ warpd_command =
 
 -- what a host is asked for: the program of this name, where to listen, how many clients there may be at a time, the file of
 -- tokens, the origins of pages that may connect, the peers, the file of tokens for peers, whether any address may be listened
--- on without tokens, whether the host ends with its standard input, the file of the journal, and when that is brought to the disk
+-- on without tokens, whether the host ends with its standard input, whether that has words of its operator, the file of the
+-- journal, and when that is brought to the disk
 pub record HostTask : Type 0 where
   pub program : Text
   pub listen : Option Text
@@ -126,6 +127,7 @@ pub record HostTask : Type 0 where
   pub peer_tokens : Option Text
   pub is_open : Bool
   pub until_input_ends : Bool
+  pub operator : Bool
   pub journal : Option Text
   pub sync : Option Text
 
@@ -209,6 +211,7 @@ host_task found = option_map (λ program. HostProgram (record {
   peer_tokens = first_of (codes "peer-tokens") found;
   is_open = is_set (codes "open") found;
   until_input_ends = is_set (codes "until-input-ends") found;
+  operator = is_set (codes "operator") found;
   journal = first_of (codes "journal") found;
   sync = first_of (codes "sync") found;
 })) (first_of (codes "PROGRAM") found)
@@ -255,6 +258,7 @@ task_of (Host job) = HostProgram (record {
   peer_tokens = option_map (λ word. word.now) job.peer_tokens;
   is_open = job.is_open;
   until_input_ends = job.until_input_ends;
+  operator = job.operator;
   journal = option_map (λ word. word.now) job.journal;
   sync = option_map (λ word. word.now) job.sync;
 })

@@ -91,6 +91,8 @@ pub struct HostJob<'a> {
     pub is_open: bool,
     /// Whether the host ends with its standard input.
     pub until_input_ends: bool,
+    /// Whether its standard input has words of its operator.
+    pub operator: bool,
     /// The word that names the file of the journal.
     pub journal: Option<&'a str>,
     /// The word that says when the journal is brought to the disk.
@@ -174,6 +176,8 @@ const PEER_TOKENS: &str = "peer-tokens";
 const OPEN: &str = "open";
 
 const UNTIL_INPUT_ENDS: &str = "until-input-ends";
+
+const OPERATOR: &str = "operator";
 
 const JOURNAL_OPTION: &str = "journal";
 
@@ -410,6 +414,11 @@ const HOST: Subcommand = Subcommand {
             kind: PartKind::Flag,
         },
         Part {
+            name: OPERATOR,
+            help: host_help::OPERATOR_HELP,
+            kind: PartKind::Flag,
+        },
+        Part {
             name: JOURNAL_OPTION,
             help: host_help::JOURNAL_HELP,
             kind: PartKind::FurtherWord { value: "FILE" },
@@ -609,6 +618,7 @@ fn host_job<'a>(alloc: Global, found: &ArgMatches<'a>) -> Result<Option<Job<'a>>
         peer_tokens: text(found, PEER_TOKENS),
         is_open: is_set(found, OPEN),
         until_input_ends: is_set(found, UNTIL_INPUT_ENDS),
+        operator: is_set(found, OPERATOR),
         journal: text(found, JOURNAL_OPTION),
         sync: text(found, SYNC),
     })))

@@ -16,6 +16,7 @@ All clients share one replica, as in `warpd serve`. Beside its lines a host know
   vars                all variables at once: vars N v0 v1 ..
   releases            how many released outputs are shown, and whether they are frozen
   release INDEX       a released output: release N TIME MICROSTEP PORT VALUE, or none N
+  digest              one number for the set of the records: digest N D, D 32 hex digits
   watch log P         the records from place P on, those that are there and those that come
   watch released I    the released outputs from I on, likewise
   watch vars, watch horizon, watch breach
@@ -28,8 +29,9 @@ What is watched is pushed in lines that begin with `* `. Steps that are not read
 out, and counted: `* skipped N`. A client for which more than a mebibyte
 waits is told `* gone slow` and closed.
 
-Over HTTP: / (a page), /program.json, /names.json, /healthz, and /metrics for Prometheus. A page
-of a browser has to be the host's own, or be allowed by --allow-origin.
+Over HTTP: / (a page), /program.json, /names.json, /healthz, /readyz (503 and why not), and
+/metrics for Prometheus. A page of a browser has to be the host's own, or be allowed by
+--allow-origin.
 
 With --journal the log is kept in a file, which is text, and read again at the next start. With
 --sync always nothing is told of a record before it is on the disk; with a number of MILLISECONDS,
@@ -37,12 +39,25 @@ With --journal the log is kept in a file, which is text, and read again at the n
 Without --journal nothing is stored on disk.
 
 Each PEER, another host or server, is followed for as long as the
-host runs: its records come in here. A host that runs another program is refused.";
+host runs: its records come in here. A host that runs another program is refused.
+
+With --operator standard input has words of its operator, one a line. Each has one line back on
+standard output, `ok ..` or `no WHY`:
+
+  stop          what was read is answered, the journal synced, and the host ends: ok
+  status        how it is: ok clients N MOST records N MOST synced N peers FOUND ALL
+                horizon TIME MICROSTEP full 0 failing 0
+  tokens        the file of --tokens is read again, and who lost a token is closed: ok closed N
+  log-level L   what standard error tells: faults (error), also who was refused or lost (warn),
+                or all, as at first (info): ok
+
+The end of standard input ends a host with --until-input-ends alone. tools/warpd-service holds
+it open, and makes words of signals.";
 
 const NOTES: &str = "\
 With --tokens each line of the file is `TOKEN *`, `TOKEN read` or `TOKEN ORIGIN[,ORIGIN]..`, and
-a client says `token T` first, or connects to /ws?token=T; HTTP but / and /healthz wants the
-header `Authorization: Bearer T`. A record for another origin is `refused 13`. The file must not
+a client says `token T` first, or connects to /ws?token=T; HTTP but /, /healthz and /readyz wants
+the header `Authorization: Bearer T`. A record for another origin is `refused 13`. The file must not
 be one that others may read. Without tokens only an address of this machine may be listened on,
 unless --open says that another is meant. TLS is for a proxy in front.
 
@@ -72,10 +87,12 @@ pub(crate) const OPEN_HELP: &str = "Listen on any address without tokens: everyb
 
 pub(crate) const UNTIL_INPUT_ENDS_HELP: &str = "End in order when standard input ends";
 
+pub(crate) const OPERATOR_HELP: &str = "Take an operator's words on standard input";
+
 pub(crate) const JOURNAL_HELP: &str = "Keep the log in this file: nothing that was told is lost";
 
 pub(crate) const SYNC_HELP: &str =
-    "When the journal is brought to the disk: always (if not given), never or MILLISECONDS";
+    "When the journal is synced: always, never or MILLISECONDS up to 60000, always if not given";
 
 /// The texts on `host`.
 pub(crate) fn help() -> Help {

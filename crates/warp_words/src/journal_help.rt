@@ -5,11 +5,13 @@ use crate::command_line::Help;
 const ABOUT: &str = "Checks or repairs the journal of a host";
 
 const LONG_ABOUT: &str = "\
-warpd journal check FILE tells how many records the journal has, the version of program files and
-the program's fingerprint, and whether it is whole, torn at its end, or damaged, and where.
+warpd journal check FILE tells the version of program files, the program's fingerprint, how many
+records read well, and whether it is whole, torn at its end, or damaged, and where.
 
-warpd journal repair FILE keeps the lines in front of the first that is none of the journal, and
-moves the rest to the end of FILE.damaged. No host may have the journal open.
+warpd journal repair FILE keeps the lines in front of the first that is none of the journal. Where
+that is a sum that does not fit, a line that it is over was changed, and none knows which: then it
+keeps the lines up to the last sum that fits, perhaps fewer records than check tells. It moves the
+rest to the end of FILE.damaged. No host may have the journal open.
 
 A journal is text: a first line, then a line for each record of the log, with lines between that
 begin with `= ` and have a sum over all in front. A line at the end that is torn, or that a loss of

@@ -317,8 +317,8 @@ abbrev pub EndsHosting : Outcome → Type 0
 EndsHosting outcome = EndsServing outcome ⊎ (outcome ≡ LostJournal)
 
 -- Hosting ends so: its address can't be listened on, or there is no memory to say so, and nothing is done; or its line, which has
--- the address that the system tells, can't be written; or that is written, and nothing else, whatever comes behind it. Contracts
--- say nothing of what a host reads of standard input.
+-- the address that the system tells, can't be written; or that is written, and nothing else through these streams, whatever comes
+-- behind it. Contracts say nothing of what a host reads of standard input, nor of its answers to an operator.
 abbrev pub HostsAt : Seen → Seen → Outcome → Type 0
 HostsAt before after outcome =
     (((outcome ≡ Listen) ⊎ (outcome ≡ Memory)) × (after ≡ before))

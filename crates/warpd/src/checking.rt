@@ -7,12 +7,13 @@ ghost use Rattle.warp_prog.specs.Load.{IsLoaded, IsRefused};
 ghost use Rattle.warp_prog.specs.Reading.{longest_file};
 ghost use Rattle.warpd.specs.Outcome.{IsFrontOf, IsNone, IsTold, IsToldOf, account_options, refused_outcome};
 
-use crate::file_bytes::{NO_FILE, first_bytes, is_no_file, without_file};
+use crate::file_bytes::{first_bytes, without_file};
 use crate::outcome::Outcome;
 use crate::program_file::{ENOUGH, TWICE, refused};
 use std::alloc::{AllocError, Global};
 use std::fs::{self, Files};
 use std::io::Read;
+use warp_host::{NO_FILE, is_no_file};
 use warp_prog::{
     AccountOptions, LoadError, NamedProgram, explanation, load_named, program_account,
     program_warnings, rows_warning,

@@ -6,25 +6,7 @@ ghost use Rattle.warpd.specs.Outcome.{IsFrontOf};
 
 use crate::outcome::Outcome;
 use std::alloc::Global;
-use std::fs::{self, Files};
 use std::io::{self, Read};
-
-/// What is said of what is no file.
-pub(crate) const NO_FILE: &str = "it is no regular file";
-
-/// Whether neither a file nor a folder stands at this path, but what may have no end or be waited for without end: a pipe,
-/// a device, or what the system itself makes under `/proc`, which tells no length. The descriptors that the process was
-/// given are taken for files.
-pub(crate) fn is_no_file<F: Files>(files: &F, path: &str) -> bool {
-    if path == "/dev/stdin" || path.starts_with("/dev/fd/") {
-        return false;
-    }
-    match fs::metadata(files, path) {
-        Ok(about) if about.is_file() => about.len() == 0 && path.starts_with("/proc/"),
-        Ok(about) => !about.is_dir(),
-        Err(_) => false,
-    }
-}
 
 /// The bytes of a reader, or where there are more than `most`, the first `most` of them. Where they couldn't be read,
 /// the run ends as `unread` says, or for want of memory.

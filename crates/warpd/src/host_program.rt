@@ -6,15 +6,15 @@ ghost use Rattle.warp_prog.specs.declared.error.LoadError.{LoadError};
 ghost use Rattle.warp_step.specs.Twice.{twice};
 ghost use Rattle.warpd.specs.Outcome.{IsFrontOf, IsNamed, IsNone, refused_outcome};
 
-use crate::file_bytes::{NO_FILE, first_bytes, is_no_file, without_file};
+use crate::file_bytes::{first_bytes, without_file};
 use crate::labelled::names_for_a_trace;
 use crate::outcome::Outcome;
 use crate::program_file::{ENOUGH, TWICE, built_in, refused};
-use crate::telling::{tell_file, tell_of_file};
 use itoa::Buffer;
 use std::alloc::{AllocError, Global};
 use std::fs::{self, Files};
 use std::io::{Eprint, Read};
+use warp_host::{NO_FILE, is_no_file, tell_file, tell_of_file};
 use warp_prog::{LoadError, NamedProgram, explanation, fingerprint, load_named, names_line};
 use warp_step::Program;
 use warp_tag::Form;

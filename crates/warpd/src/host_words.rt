@@ -5,22 +5,17 @@ ghost use Rattle.std.specs.Option.{is_some};
 ghost use Rattle.warp_host.specs.Listening.{MayListen};
 ghost use Rattle.warpd.specs.Outcome.{KeepsFromHosting};
 
-use crate::client_tokens::is_silent;
-use crate::file_bytes::{NO_FILE, is_no_file};
 use crate::origins::{is_address, is_origin};
-use crate::outcome::{Outcome, TokenFile};
-use crate::telling::{
-    tell_file, tell_line, tell_of_file, tell_owner, tell_peers, tell_shown, tell_word,
-};
+use crate::outcome::{Outcome, TokenFile, outcome_of_tokens};
+use crate::telling::{tell_peers, tell_word};
 use std::alloc::{AllocError, Global};
-use std::fs::{self, Files, OpenFile};
-use std::io::{Eprint, Read};
+use std::fs::Files;
+use std::io::Eprint;
 use std::net::{Ipv4Addr, SocketAddr};
-use std::os::unix::fs::{MetadataExt, PermissionsExt};
 use warp_disk::SyncWhen;
-use warp_host::{DEFAULT_CLIENTS, MOST_PEERS, may_listen};
+use warp_host::{DEFAULT_CLIENTS, MOST_PEERS, may_listen, tell_line, token_text};
 use warp_hub::PeerToken;
-use warp_machine::PeerAt;
+use warp_machine::{LONGEST_SAID, PeerAt, is_silent};
 use warp_words::HostJob;
 
 /// The port that is listened on where none is given.
@@ -28,18 +23,6 @@ const DEFAULT_PORT: u16 = 7_070;
 
 /// The longest that a record may wait to be brought to the disk, in milliseconds.
 const LONGEST_WAIT: u64 = 60_000;
-
-/// The most bytes of a file of tokens.
-const LONGEST_TOKENS: u64 = 1_048_576;
-
-/// The most bytes of a token that a line of 128 bytes can say.
-pub(crate) const LONGEST_SAID: usize = 122;
-
-/// The bits of a file's mode that let the group or others read or write it.
-const OTHERS_MAY: u32 = 0o066;
-
-/// The user who may read and write all files anyway.
-const ROOT: u32 = 0;
 
 /// A file of tokens.
 #[derive(Drop)]
@@ -63,6 +46,8 @@ pub(crate) struct HostPlan {
     pub(crate) peers: Vec<PeerAt>,
     /// Whether the host ends with its standard input.
     pub(crate) until_input_ends: bool,
+    /// Whether standard input has lines of its operator.
+    pub(crate) operator: bool,
     /// The path of the journal, if there is to be one.
     pub(crate) journal: Option<String>,
     /// When it is brought to the disk.
@@ -85,74 +70,6 @@ fn address_of<X: Eprint>(rt: &X, word: Option<&str>) -> Result<SocketAddr, Outco
     }
 }
 
-/// All bytes of a file of tokens, which others may neither read nor write, and which is this user's or root's. What is no
-/// file is not opened, so that the start waits for nobody.
-fn token_bytes<X: Files + Eprint>(
-    rt: &X,
-    alloc: Global,
-    name: &str,
-    which: TokenFile,
-) -> Result<Vec<u8>, Outcome>
-    ensures { IfErr result KeepsFromHosting }
-{
-    if is_no_file(rt, name) {
-        tell_of_file(rt, name, NO_FILE);
-        return Err(Outcome::NoTokens(which));
-    }
-    match fs::open(rt, name) {
-        Ok(file) => file_bytes(rt, alloc, name, which, file),
-        Err(error) => {
-            tell_file(rt, name, &error);
-            Err(Outcome::NoTokens(which))
-        }
-    }
-}
-
-/// Whether others may read or write a file of tokens of this name, mode and owner: any but this user and root. That is
-/// told.
-fn is_shown<X: Eprint>(rt: &X, name: &str, mode: u32, owner: u32) -> bool {
-    if mode & OTHERS_MAY != 0 {
-        tell_shown(rt, name, mode);
-        return true;
-    }
-    if owner != ROOT && owner != libc::geteuid() {
-        tell_owner(rt, name, owner);
-        return true;
-    }
-    false
-}
-
-/// All bytes of this file of tokens, which has this name.
-fn file_bytes<X: Eprint, O: OpenFile + Read + Drop>(
-    rt: &X,
-    alloc: Global,
-    name: &str,
-    which: TokenFile,
-    file: O,
-) -> Result<Vec<u8>, Outcome>
-    ensures { IfErr result KeepsFromHosting }
-{
-    let about = match file.metadata() {
-        Ok(about) => about,
-        Err(error) => {
-            tell_file(rt, name, &error);
-            return Err(Outcome::NoTokens(which));
-        }
-    };
-    if is_shown(rt, name, about.permissions().mode(), about.uid()) {
-        return Err(Outcome::ShownTokens(which));
-    }
-    let mut bytes = Vec::new(alloc);
-    // One more, so that a longer file is seen to be longer.
-    let mut front = file.take(LONGEST_TOKENS + 1);
-    match front.read_to_end(&mut bytes) {
-        Ok(_) if bytes.len() as u64 <= LONGEST_TOKENS => return Ok(bytes),
-        Ok(_) => tell_of_file(rt, name, "it has more than 1,048,576 bytes"),
-        Err(error) => tell_file(rt, name, &error),
-    }
-    Err(Outcome::NoTokens(which))
-}
-
 /// The file of tokens that this word names, if there is such a word.
 fn tokens_of<X: Files + Eprint>(
     rt: &X,
@@ -167,9 +84,9 @@ fn tokens_of<X: Files + Eprint>(
         return Ok(None);
     };
     let path = or_memory(String::from_str(alloc, name))?;
-    match token_bytes(rt, alloc, name, which) {
+    match token_text(rt, rt, alloc, name) {
         Ok(text) => Ok(Some(TokenText { path, text })),
-        Err(outcome) => Err(outcome),
+        Err(fault) => Err(outcome_of_tokens(fault, which)),
     }
 }
 
@@ -448,6 +365,7 @@ pub(crate) fn host_plan<X: Files + Eprint>(
         origins,
         peers,
         until_input_ends: job.until_input_ends,
+        operator: job.operator,
         journal,
         sync,
     })

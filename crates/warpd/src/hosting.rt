@@ -2,28 +2,29 @@
 ghost use Rattle.std.specs.Prelude.{◌≡◌, ℕ, IfErr, IfOk, List, MatchBool, OnErr, string_bytes};
 ghost use Rattle.warpd.specs.Outcome.{EndsHosting, Hosts, HostsAt, HostsPlanned, IsPrinted, KeepsFromHosting, host_line};
 
-use crate::client_tokens::tokens_in;
 use crate::host_program::{HostedProgram, fingerprint_in, hosted_program, version_of};
-use crate::host_words::{HostPlan, host_plan};
-use crate::outcome::{Outcome, outcome_of_hosting, outcome_of_journal};
+use crate::host_words::{HostPlan, TokenText, host_plan};
+use crate::outcome::{Outcome, TokenFile, outcome_of_hosting, outcome_of_journal};
 use crate::service::Host;
 use crate::stepping::{LastRow, Stepping};
 use crate::streams::Streams;
-use crate::telling::tell_listen;
+use crate::telling::{tell_bad_tokens, tell_listen};
 use arrayvec::ArrayString;
 use mio::net::TcpListener;
 use std::alloc::{AllocError, Global};
 use std::hash::RandomState;
+use std::io::Eprint;
 use std::net::{self, IpAddr, Net, SocketAddr};
-use warp_disk::{FirstLines, OpenJournal, open_journal};
-use warp_host::{HostFault, Outside, begin, clients_within};
+use warp_disk::{FirstLines, OpenJournal, SyncWhen, open_journal};
+use warp_host::{ChannelUse, HostFault, Outside, begin, clients_within};
 use warp_hub::{Facts, Tokens};
 use warp_journal::{first_line, old_first_line};
 use warp_line::Timeline;
-use warp_machine::{Options, PeerAt, Start, host_machine};
+use warp_machine::{NoTokens, Options, PeerAt, Start, host_machine, read_tokens};
 use warp_pages::{Names, Texts};
 use warp_replica::Replica;
 use warp_session::{Sink, Source, write_all};
+use warp_step::Program;
 use warp_trace::Labels;
 use warp_words::HostJob;
 
@@ -43,8 +44,16 @@ struct Prepared<T: Timeline> {
     names_json: Vec<u8>,
     origins: Vec<String>,
     address: SocketAddr,
-    until_input_ends: bool,
+    channel: ChannelUse,
     journal: Option<OpenJournal>,
+}
+
+/// The tokens of clients, for lines and for HTTP, and the path of their file; none where there are none.
+#[derive(Drop)]
+struct ClientTokens {
+    lines: Option<Tokens>,
+    pages: Option<Tokens>,
+    path: Option<String>,
 }
 
 /// Hosts the program that the job names.
@@ -103,12 +112,13 @@ fn journal_of<P: Host, T: Timeline>(
     rt: &P,
     alloc: Global,
     identity: &[u8],
-    plan: &HostPlan,
+    path: &Option<String>,
+    sync: SyncWhen,
     replica: &mut Replica<T>,
 ) -> Result<Option<OpenJournal>, Outcome>
     ensures { IfErr result KeepsFromHosting }
 {
-    let Some(path) = &plan.journal else {
+    let Some(path) = path else {
         return Ok(None);
     };
     let version = version_of(replica.program().form());
@@ -122,10 +132,55 @@ fn journal_of<P: Host, T: Timeline>(
         new: &new,
         old: &old,
     };
-    match open_journal(rt, alloc, path.as_str(), plan.sync, lines, replica) {
+    match open_journal(rt, alloc, path.as_str(), sync, lines, replica) {
         Ok(journal) => Ok(Some(journal)),
         Err(fault) => Err(outcome_of_journal(fault)),
     }
+}
+
+/// The tokens in the text of the file at this path, for this program. Which line is refused, and why, is told.
+fn tokens_in<X: Eprint>(
+    rt: &X,
+    alloc: Global,
+    program: &Program,
+    path: &str,
+    text: &[u8],
+) -> Result<Tokens, Outcome>
+    ensures { IfErr result KeepsFromHosting }
+{
+    match read_tokens(alloc, program.form(), program.origins(), text) {
+        Ok(tokens) => Ok(tokens),
+        Err(NoTokens::Bad(bad)) => {
+            tell_bad_tokens(rt, path, &bad);
+            Err(Outcome::BadTokens(TokenFile::Clients, u64::from(bad.line)))
+        }
+        Err(NoTokens::NoMemory) => Err(Outcome::Memory),
+    }
+}
+
+/// The tokens in the text of the file of tokens, if there is one, for this program.
+fn tokens_of<X: Eprint>(
+    rt: &X,
+    alloc: Global,
+    program: &Program,
+    file: Option<TokenText>,
+) -> Result<ClientTokens, Outcome>
+    ensures { IfErr result KeepsFromHosting }
+{
+    let Some(TokenText { path, text }) = file else {
+        return Ok(ClientTokens {
+            lines: None,
+            pages: None,
+            path: None,
+        });
+    };
+    let lines = tokens_in(rt, alloc, program, path.as_str(), &text)?;
+    let pages = tokens_in(rt, alloc, program, path.as_str(), &text)?;
+    Ok(ClientTokens {
+        lines: Some(lines),
+        pages: Some(pages),
+        path: Some(path),
+    })
 }
 
 /// All that a host needs of its program and its plan.
@@ -138,9 +193,7 @@ fn prepare<P: Host, T: Timeline>(
     ensures { IfErr result KeepsFromHosting }
 {
     let form = hosted.program.form();
-    // One for the lines of clients, one for HTTP.
-    let tokens = tokens_in(rt, alloc, &hosted.program, &plan.tokens)?;
-    let again = tokens_in(rt, alloc, &hosted.program, &plan.tokens)?;
+    let ClientTokens { lines, pages, path } = tokens_of(rt, alloc, &hosted.program, plan.tokens)?;
     let HostedProgram {
         program,
         bytes,
@@ -154,7 +207,7 @@ fn prepare<P: Host, T: Timeline>(
     let Ok(mut replica) = Replica::new(alloc, program) else {
         return Err(Outcome::Memory);
     };
-    let journal = match journal_of(rt, alloc, &identity, &plan, &mut replica) {
+    let journal = match journal_of(rt, alloc, &identity, &plan.journal, plan.sync, &mut replica) {
         Ok(journal) => journal,
         Err(outcome) => return Err(outcome),
     };
@@ -165,17 +218,21 @@ fn prepare<P: Host, T: Timeline>(
             program: identity,
             names,
             most_clients,
-            tokens,
+            tokens: lines,
         },
         labels,
         peers: plan.peers,
         clients: plan.clients,
-        tokens: again,
+        tokens: pages,
         bytes,
         names_json,
         origins: plan.origins,
         address: plan.address,
-        until_input_ends: plan.until_input_ends,
+        channel: ChannelUse {
+            until_input_ends: plan.until_input_ends,
+            operator: plan.operator,
+            tokens: path,
+        },
         journal,
     })
 }
@@ -318,14 +375,14 @@ fn parted<T: Timeline>(
         bytes,
         names_json,
         origins,
-        until_input_ends,
+        channel,
         journal,
         ..
     } = prepared;
     let outside = Outside {
         listener,
         peers: u16::try_from(peers.len()).unwrap_or(u16::MAX),
-        until_input_ends,
+        channel,
         journal,
     };
     let options = Options {

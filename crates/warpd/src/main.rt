@@ -2,7 +2,6 @@
 #![tactic(auto)]
 
 mod checking;
-mod client_tokens;
 mod closed_streams;
 mod connection;
 mod file_bytes;

@@ -8,7 +8,7 @@ ghost use Rattle.warpd.specs.Outcome.{status_of, unread_words};
 use arrayvec::ArrayString;
 use itoa::Buffer;
 use warp_disk::OpenFault;
-use warp_host::HostFault;
+use warp_host::{HostFault, TokenFault};
 use warp_session::{ServeFault, SessionEnd};
 use warp_trace::TraceFault;
 use warp_world::ScheduleFault;
@@ -276,5 +276,15 @@ pub fn outcome_of_journal(fault: OpenFault) -> Outcome
         OpenFault::Damaged(line) => Outcome::DamagedJournal(line),
         OpenFault::Refused(line) => Outcome::RefusedJournal(line),
         OpenFault::NoMemory => Outcome::Memory,
+    }
+}
+
+/// How a run ends whose file of tokens is not read for this reason.
+pub fn outcome_of_tokens(fault: TokenFault, which: TokenFile) -> Outcome
+    ensures { KeepsFromHosting result }
+{
+    match fault {
+        TokenFault::Unread => Outcome::NoTokens(which),
+        TokenFault::Shown => Outcome::ShownTokens(which),
     }
 }

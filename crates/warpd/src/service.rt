@@ -15,6 +15,7 @@ use std::sync::Wait;
 use std::thread::{self, Threads};
 use std::time::{Clock, Duration};
 use warp_disk::FreshFiles;
+use warp_host::TokenFiles;
 use warp_lanes::Engine;
 use warp_line::Timeline;
 use warp_session::{Door, DoorFault, Open, Peer, PullEnd, ServeFault, serve_sessions};
@@ -29,6 +30,7 @@ pub(crate) trait Host: Print
     + Eprint
     + Files<File = File>
     + FreshFiles
+    + TokenFiles
     + Threads
     + Wait
     + Clock
@@ -41,6 +43,7 @@ where
         + Eprint
         + Files<File = File>
         + FreshFiles
+        + TokenFiles
         + Threads
         + Wait
         + Clock

@@ -8,6 +8,6 @@ use Rattle.warp_machine.proofs.moves.ping.Goals as goal
 pub returns : goal.returns
 returns g c = elim c.ping.ensures [
   | inl same ↦ stays (facts_of g.T.Timeline.settled g.T.Timeline.refused g.T.Timeline.floor g.T.Timeline.SLACK) c.args.clients.now c.ping.new.self same
-  | inr (inl quiet) ↦ by_step (facts_of g.T.Timeline.settled g.T.Timeline.refused g.T.Timeline.floor g.T.Timeline.SLACK) (Does c.args.who Quieted) c.args.clients.now c.ping.new.self quiet
-  | inr (inr lost) ↦ by_step (facts_of g.T.Timeline.settled g.T.Timeline.refused g.T.Timeline.floor g.T.Timeline.SLACK) (Does c.args.who Lost) c.args.clients.now c.ping.new.self lost
+  | inr (inl quiet) ↦ by_step (facts_of g.T.Timeline.settled g.T.Timeline.refused g.T.Timeline.floor g.T.Timeline.SLACK) (Does c.args.who Quieted) c.args.clients.now c.ping.new.self tt quiet
+  | inr (inr lost) ↦ by_step (facts_of g.T.Timeline.settled g.T.Timeline.refused g.T.Timeline.floor g.T.Timeline.SLACK) (Does c.args.who Lost) c.args.clients.now c.ping.new.self tt lost
 ]

@@ -5,4 +5,4 @@ use Rattle.warp_machine.proofs.Joining.{by_step}
 use Rattle.warp_machine.proofs.moves.show_released.Goals as goal
 
 pub returns : goal.returns
-returns g c = by_step (facts_of g.T.Timeline.settled g.T.Timeline.refused g.T.Timeline.floor g.T.Timeline.SLACK) (Works Executed) c.args.clients.now c.show_released.new.self c.show_released.ensures.step
+returns g c = by_step (facts_of g.T.Timeline.settled g.T.Timeline.refused g.T.Timeline.floor g.T.Timeline.SLACK) (Works Executed) c.args.clients.now c.show_released.new.self tt c.show_released.ensures.step

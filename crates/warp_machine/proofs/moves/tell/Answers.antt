@@ -5,7 +5,7 @@ use Rattle.warp_machine.proofs.Joining.{by_step}
 use Rattle.warp_machine.proofs.moves.tell.Goals as goal
 
 pub returns-in_default : goal.returns-in_default
-returns-in_default g c = by_step (facts_of g.T.Timeline.settled g.T.Timeline.refused g.T.Timeline.floor g.T.Timeline.SLACK) (Works Executed) c.args.clients.now c.tell.new.self c.tell.ensures.step
+returns-in_default g c = by_step (facts_of g.T.Timeline.settled g.T.Timeline.refused g.T.Timeline.floor g.T.Timeline.SLACK) (Works Executed) c.args.clients.now c.tell.new.self tt c.tell.ensures.step
 
 pub returns : goal.returns
-returns g c = by_step (facts_of g.T.Timeline.settled g.T.Timeline.refused g.T.Timeline.floor g.T.Timeline.SLACK) (Works Executed) c.args.clients.now c.tell.new.self c.tell.ensures.step
+returns g c = by_step (facts_of g.T.Timeline.settled g.T.Timeline.refused g.T.Timeline.floor g.T.Timeline.SLACK) (Works Executed) c.args.clients.now c.tell.new.self tt c.tell.ensures.step

@@ -6,4 +6,11 @@ pub returns-then-ne : goal.returns-then-ne
 returns-then-ne g c = joined (facts_of g.T.Timeline.settled g.T.Timeline.refused g.T.Timeline.floor g.T.Timeline.SLACK) c.args.self.now.clients c.show-shown.new.self.clients c.work-worked.new.clients (joined (facts_of g.T.Timeline.settled g.T.Timeline.refused g.T.Timeline.floor g.T.Timeline.SLACK) c.args.self.now.clients c.settle.new.self.clients c.show-shown.new.self.clients c.settle.ensures c.show-shown.ensures) c.work-worked.ensures
 
 pub returns : goal.returns
-returns g c = kept_on (facts_of g.T.Timeline.settled g.T.Timeline.refused g.T.Timeline.floor g.T.Timeline.SLACK) c.args.self.now.clients c.execute.new.clients c.keep_noted.new.self.clients (joined (facts_of g.T.Timeline.settled g.T.Timeline.refused g.T.Timeline.floor g.T.Timeline.SLACK) c.args.self.now.clients c.work-worked.new.clients c.execute.new.clients (joined (facts_of g.T.Timeline.settled g.T.Timeline.refused g.T.Timeline.floor g.T.Timeline.SLACK) c.args.self.now.clients c.show-shown.new.self.clients c.work-worked.new.clients (joined (facts_of g.T.Timeline.settled g.T.Timeline.refused g.T.Timeline.floor g.T.Timeline.SLACK) c.args.self.now.clients c.settle.new.self.clients c.show-shown.new.self.clients c.settle.ensures c.show-shown.ensures) c.work-worked.ensures) c.execute.ensures) c.keep_noted.ensures
+returns g c =
+    let facts = facts_of g.T.Timeline.settled g.T.Timeline.refused g.T.Timeline.floor g.T.Timeline.SLACK in
+    let start = c.args.self.now.clients in
+    let shown = joined facts start c.settle.new.self.clients c.show-shown.new.self.clients c.settle.ensures c.show-shown.ensures in
+    let worked = joined facts start c.show-shown.new.self.clients c.work-worked.new.clients shown c.work-worked.ensures in
+    let executed = joined facts start c.work-worked.new.clients c.execute.new.clients worked c.execute.ensures in
+    let noted = kept_on facts start c.execute.new.clients c.note_rows.new.self.clients executed c.note_rows.ensures in
+    kept_on facts start c.note_rows.new.self.clients c.keep_noted.new.self.clients noted c.keep_noted.ensures

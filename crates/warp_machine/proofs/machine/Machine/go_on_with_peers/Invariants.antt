@@ -1,6 +1,6 @@
 use Rattle.warp_replica.specs.Answered.{facts_of}
-use Rattle.warp_machine.specs.Moving.{Moved}
+use Rattle.warp_machine.specs.Moving.{IsPassing, MovedWith}
 use Rattle.warp_machine.proofs.machine.Machine.go_on_with_peers.Given as goal
 
 abbrev pub invariant-loop-at : goal.invariant-loop-at
-invariant-loop-at g l = Moved (facts_of g.T.Timeline.settled g.T.Timeline.refused g.T.Timeline.floor g.T.Timeline.SLACK) l.initial.self.clients l.self.clients
+invariant-loop-at g l = MovedWith (facts_of g.T.Timeline.settled g.T.Timeline.refused g.T.Timeline.floor g.T.Timeline.SLACK) IsPassing l.initial.self.clients l.self.clients

@@ -11,4 +11,5 @@ invariant_of-self g c =
       subst (λ (made : List AnsweredLine). IsServed r.program r.records (history_of made)) (sym {A = List AnsweredLine} c.forget.ensures)
           (served_kept (λ (one : AnsweredLine). not (is_client c.args.who one.who)) r.program r.records c.self.inside.made.items c.self.invariant.0),
       c.self.invariant.1,
+      c.self.invariant.2,
     )

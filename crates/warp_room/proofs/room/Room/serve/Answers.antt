@@ -15,9 +15,9 @@ invariant_of-self-2 g c =
     let one : AnsweredLine = record { who = c.in-Some.turn.who; said = c.in-Some.turn.line; answer = c.answer_line-answer.result } in
     let made = more_made c.self.inside.made.items c.reserve.new.self.items c.push_back_reserved.new.self.items one
     c.reserve.ensures.items c.push_back_reserved.ensures.items in
-    let kept = kept_served facts c.self.inside.replica r' c.self.inside.made.items one c.self.inside.shown c.self.invariant.0 c.self.invariant.1
-    c.answer_line-answer.ensures in
-    (subst (λ (l : List AnsweredLine). IsServed r'.program r'.records (history_of l)) (sym {A = List AnsweredLine} made) kept.0, kept.1)
+    let kept = kept_served facts c.self.inside.replica r' c.self.inside.made.items one c.self.inside.shown c.self.inside.digest
+    c.self.invariant.0 c.self.invariant.1 c.self.invariant.2 c.answer_line-answer.ensures in
+    (subst (λ (l : List AnsweredLine). IsServed r'.program r'.records (history_of l)) (sym {A = List AnsweredLine} made) kept.0, kept.1, kept.2)
 
 pub returns-clause-served : goal.returns-clause-served
 returns-clause-served g c =

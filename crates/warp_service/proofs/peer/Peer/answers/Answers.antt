@@ -9,5 +9,5 @@ returns-clause-hears c = (
   subst (λ s. HearsOn s c.note.new.self) c.self.view_is
       (heard_answer _ _ c.note.new.self c.take_answers-count.ensures.counts refl c.note.ensures.same
       (stays_same c.self.inside.contact) c.note.ensures.stays refl c.note.ensures.told refl refl),
-  c.settle.ensures,
+  c.settle.ensures.settles,
 )

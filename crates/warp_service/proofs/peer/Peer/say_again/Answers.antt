@@ -5,8 +5,8 @@ use Rattle.warp_service.specs.Peers.{Goes, PeerState}
 use Rattle.warp_service.proofs.PeerSteps.{goes_same, stays_asked}
 use Rattle.warp_service.proofs.peer.Peer.say_again.Goals as goal
 
-pub returns : goal.returns
-returns c =
+pub returns-clause-hears : goal.returns-clause-hears
+returns-clause-hears c =
     let i = c.self.inside in
     record {
       goes = subst (λ (s : PeerState). Goes s.follower c.ask_again.new.self s.handed i.handed.items) c.self.view_is

@@ -10,6 +10,6 @@ returns-in-Nothing-clause-hears c = (c.args.self.now, heard_none c.args.self.now
 
 pub returns-in-Question-clause-hears : goal.returns-in-Question-clause-hears
 returns-in-Question-clause-hears c =
-    heard_question c.args.now c.args.self.now c.ask_question.new.self
+    heard_question c.args.now c.args.own c.args.self.now c.ask_question.new.self
     (subst (λ (s : PeerState). due_now c.args.now s.contact ≡ Question) c.self.view_is (sym c.due.ensures ∙ c.in-Question.is))
     c.ask_question.ensures

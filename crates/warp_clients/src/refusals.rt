@@ -1,0 +1,51 @@
+//! How many refusals were told, by their numbers.
+ghost use Rattle.std.specs.Prelude.{◌≡◌, slice_index_or};
+ghost use Rattle.warp_clients.specs.Refusals.{one_more};
+
+/// Refusals have numbers below this one.
+pub const MOST_REFUSALS: usize = 23;
+
+/// How many refusals of each number were told.
+#[derive(Clone, Copy, Debug)]
+pub struct Refusals {
+    counts: [u64; MOST_REFUSALS],
+}
+
+impl Refusals {
+    /// None was told.
+    pub const NONE: Refusals = Refusals {
+        counts: [0; MOST_REFUSALS],
+    };
+
+    /// How many of this number were told.
+    pub fn of(&self, number: usize) -> u64
+        ensures { result ≡ slice_index_or self.now.counts number 0 }
+    {
+        match self.counts.get(number) {
+            Some(count) => *count,
+            None => 0,
+        }
+    }
+
+    /// Whether none was told.
+    pub fn are_none(&self) -> bool {
+        self.counts.iter().all(|count| *count == 0)
+    }
+
+    /// One more of this number was told. One that no refusal has is not counted.
+    pub(crate) fn note(&mut self, number: usize)
+        ensures { self.new.counts ≡ one_more number self.old.counts }
+    {
+        if number < MOST_REFUSALS {
+            self.counts[number] = self.counts[number].wrapping_add(1);
+        }
+    }
+}
+
+/// The number of a refusal with one digit, if that is what this line is: `refused K` and a line feed; else 0, which none has.
+pub(crate) fn number_in(line: &[u8]) -> usize {
+    if line.len() != 10 || !line.starts_with(b"refused ") || line[8] < b'0' {
+        return 0;
+    }
+    usize::from(line[8] - b'0')
+}

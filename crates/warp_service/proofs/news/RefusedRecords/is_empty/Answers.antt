@@ -1,0 +1,8 @@
+use Rattle.std.proofs.Common.{◌∙◌, ◌==◌, length, ap, sym}
+use Rattle.warp_service.proofs.NewsLemmas.{waiting}
+use Rattle.warp_service.proofs.news.RefusedRecords.is_empty.Goals as goal
+
+pub returns : goal.returns
+returns c =
+    ap (λ n. n == 0) (sym (waiting c.self.inside.events c.self.inside.count c.self.invariant.0 c.self.invariant.1)
+    ∙ ap length c.self.view_is)

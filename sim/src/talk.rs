@@ -1,0 +1,566 @@
+//! A conversation of lines with a host: what was asked, and whether each reply and each push is one that may come.
+
+use crate::oracle::{History, Record};
+use crate::tokens::rights_in;
+use std::collections::{BTreeMap, BTreeSet, VecDeque};
+
+/// What is known of what a host said, over all its conversations.
+pub struct Known {
+    pub history: History,
+    /// The longest log of which somebody was told.
+    pub told: u32,
+    /// The places of which somebody was told that its record took them.
+    taken: BTreeSet<u32>,
+    /// Released outputs, by their numbers, as they were shown since the host began.
+    shown: BTreeMap<u32, String>,
+    /// It fails now to write its journal, and how many times that has changed.
+    pub is_failing: bool,
+    pub failures: u32,
+    /// How many times the host began anew, and with how many records the last time.
+    begins: u32,
+    kept: u32,
+    /// The versions of its tokens, in the order in which they were read; none where it has none.
+    pub versions: Vec<usize>,
+}
+
+impl Known {
+    /// Nothing was said of a program so wide.
+    pub fn new(width: usize) -> Known {
+        Known {
+            history: History::new(width),
+            told: 0,
+            taken: BTreeSet::new(),
+            shown: BTreeMap::new(),
+            is_failing: false,
+            failures: 0,
+            begins: 0,
+            kept: 0,
+            versions: Vec::new(),
+        }
+    }
+
+    /// The version of its tokens, and where it stands among those that were read.
+    pub fn version(&self) -> usize {
+        self.versions.last().copied().unwrap_or(0)
+    }
+
+    pub fn last_version(&self) -> usize {
+        self.versions.len().saturating_sub(1)
+    }
+
+    /// The versions that were there since then.
+    pub fn versions_since(&self, at: usize) -> &[usize] {
+        &self.versions[at.min(self.versions.len())..]
+    }
+
+    /// The host begins anew, with the first so many records of its log.
+    pub fn begin_anew(&mut self, count: u32) {
+        self.begins += 1;
+        self.kept = count;
+        self.told = self.told.min(count);
+        self.taken.retain(|place| *place <= count);
+        self.shown.clear();
+        self.history.cut(count);
+    }
+
+    /// Notes that this released output was shown, which is shown so each time.
+    fn note_shown(&mut self, at: u32, text: &str) -> Result<(), String> {
+        let known = self.shown.entry(at).or_insert_with(|| text.to_string());
+        if known != text {
+            return Err(format!("released output {at} was {known}, and is {text}"));
+        }
+        let len = self.history.len();
+        let state = self.history.state(len);
+        if !state.broken.is_empty() {
+            return Ok(());
+        }
+        let output = state.outputs.get(at as usize).filter(|_| (at as usize) < state.released);
+        match output {
+            Some((tag, value)) if text == format!("{} {} 0 {value}", tag.0, tag.1) => Ok(()),
+            _ => Err(format!("released output {at} is {text}, which no released output is")),
+        }
+    }
+}
+
+/// What is watched.
+#[derive(Clone, Copy, Debug, PartialEq, Eq, PartialOrd, Ord)]
+pub enum Subject {
+    Log,
+    Released,
+    Vars,
+    Horizon,
+    Breach,
+    Steps,
+}
+
+impl Subject {
+    pub const ALL: [Subject; 6] =
+        [Subject::Log, Subject::Released, Subject::Vars, Subject::Horizon, Subject::Breach, Subject::Steps];
+
+    /// Its word.
+    pub fn word(self) -> &'static str {
+        match self {
+            Subject::Log => "log",
+            Subject::Released => "released",
+            Subject::Vars => "vars",
+            Subject::Horizon => "horizon",
+            Subject::Breach => "breach",
+            Subject::Steps => "steps",
+        }
+    }
+}
+
+/// What a line asks.
+#[derive(Clone, Debug)]
+pub enum What {
+    Record(Record),
+    Query,
+    Watch(Subject, u32),
+    Unwatch(Subject),
+    Token(&'static str),
+    Program,
+    Names,
+    Board,
+    Row,
+    Releases,
+    Release(u32),
+    /// What is refused with this number, whatever is there.
+    Bad(u32),
+}
+
+/// What somebody may send.
+#[derive(Clone, Debug, PartialEq, Eq)]
+pub enum Rights {
+    /// No token was said.
+    Unknown,
+    All,
+    Read,
+    Origin(u64),
+    /// Those of a token that were changed meanwhile.
+    Unsure,
+}
+
+impl Rights {
+    /// Whether a line is allowed.
+    fn may(&self, what: &What, line: &str) -> bool {
+        match (what, self) {
+            (What::Token(_) | What::Program, _) | (_, Rights::All | Rights::Unsure) => true,
+            (_, Rights::Unknown) => false,
+            (What::Record(_), Rights::Read) => false,
+            (What::Record(record), Rights::Origin(origin)) => record.origin() == *origin,
+            (_, Rights::Read) => line != "collect",
+            (_, Rights::Origin(_)) => true,
+        }
+    }
+
+    /// What `token` is answered.
+    fn text(&self) -> String {
+        match self {
+            Rights::Unknown | Rights::Unsure => "refused 13".into(),
+            Rights::All => "may *".into(),
+            Rights::Read => "may read".into(),
+            Rights::Origin(origin) => format!("may {origin}"),
+        }
+    }
+}
+
+/// A line that was sent and not answered.
+struct Asked {
+    line: String,
+    what: What,
+    /// The longest log of which somebody was told when it was sent.
+    floor: u32,
+    was_failing: bool,
+    failures: u32,
+    /// How many times the host had begun anew by then, and how many versions of its tokens there had been before the last.
+    begins: u32,
+    version: usize,
+    /// With how many bytes of its connection it ends; 0 while that is not known.
+    end: u64,
+}
+
+/// How far a watch is.
+#[derive(Clone, Debug, Default)]
+struct Watch {
+    /// The next place or number, of what comes by pages.
+    next: u32,
+    /// The newest value, and the length of its log.
+    value: Option<String>,
+    len: u32,
+    is_frozen: bool,
+}
+
+/// A conversation.
+pub struct Talk {
+    asked: VecDeque<Asked>,
+    pub rights: Rights,
+    /// The last token by which it may send something, and how many were refused.
+    pub token: Option<&'static str>,
+    pub wrong_tokens: u32,
+    /// The longest log of which it was told.
+    told: u32,
+    watches: BTreeMap<Subject, Watch>,
+    /// What comes was said before the host began anew.
+    pub is_past: bool,
+    pub is_gone_slow: bool,
+    /// How many replies and pushes came.
+    pub replies: u64,
+    pub pushes: u64,
+}
+
+/// The number at this place of a line's words.
+fn number(text: &str, at: usize) -> Result<u32, String> {
+    let word = text.split(' ').nth(at).and_then(|word| word.parse().ok());
+    word.ok_or_else(|| format!("no number {at} in: {text}"))
+}
+
+impl Talk {
+    /// One in which nothing was said.
+    pub fn new(rights: Rights) -> Talk {
+        Talk {
+            asked: VecDeque::new(),
+            rights,
+            token: None,
+            wrong_tokens: 0,
+            told: 0,
+            watches: BTreeMap::new(),
+            is_past: false,
+            is_gone_slow: false,
+            replies: 0,
+            pushes: 0,
+        }
+    }
+
+    /// This line is said, which ends with so many bytes of its connection, or with how many is noted when it is posted.
+    pub fn say(&mut self, line: &str, what: What, end: u64, known: &Known) {
+        self.asked.push_back(Asked {
+            line: line.to_string(),
+            what,
+            floor: known.told,
+            was_failing: known.is_failing,
+            failures: known.failures,
+            begins: known.begins,
+            version: known.last_version(),
+            end,
+        });
+    }
+
+    /// What was said is to be sent, with which the connection has so many bytes.
+    pub fn note_posted(&mut self, end: u64) {
+        for asked in self.asked.iter_mut().rev().take_while(|asked| asked.end == 0) {
+            asked.end = end;
+        }
+    }
+
+    /// Whether a line within the first so many bytes was not answered.
+    pub fn waits_up_to(&self, heard: u64) -> bool {
+        self.asked.front().is_some_and(|asked| asked.end > 0 && asked.end <= heard)
+    }
+
+    /// So many tokens at most were refused, those that have no answer yet with them.
+    pub fn most_wrong_tokens(&self) -> usize {
+        let waits = self.asked.iter().filter(|asked| matches!(asked.what, What::Token(_))).count();
+        self.wrong_tokens as usize + waits
+    }
+
+    /// Whether it said a token and has no answer to that.
+    pub fn waits_for_token(&self) -> bool {
+        self.asked.iter().any(|asked| matches!(asked.what, What::Token(_)))
+    }
+
+    /// How many lines were not answered.
+    pub fn waiting(&self) -> usize {
+        self.asked.len()
+    }
+
+    /// The first line that was not answered.
+    pub fn first_waiting(&self) -> &str {
+        self.asked.front().map_or("", |asked| &asked.line)
+    }
+
+    /// A line came; of so long a log at most it may tell. `Err` says why it may not come.
+    pub fn hear(&mut self, text: &str, limit: u32, known: &mut Known) -> Result<(), String> {
+        if let Some(push) = text.strip_prefix("* ") {
+            self.pushes += 1;
+            return self.hear_push(push, limit, known).map_err(|why| format!("{why}; pushed: {}", short(text)));
+        }
+        let Some(mut asked) = self.asked.pop_front() else {
+            return Err(format!("a reply to nothing: {}", short(text)));
+        };
+        if asked.begins != known.begins {
+            asked.floor = asked.floor.min(known.kept);
+        }
+        self.replies += 1;
+        let heard = self.hear_reply(&asked, text, limit, known);
+        heard.map_err(|why| format!("{why}; to: {}; reply: {}", asked.line, short(text)))
+    }
+
+    /// A reply to this line came.
+    fn hear_reply(&mut self, asked: &Asked, text: &str, limit: u32, known: &mut Known) -> Result<(), String> {
+        let refused = text.strip_prefix("refused ").and_then(|word| word.parse::<u32>().ok());
+        if !self.rights.may(&asked.what, &asked.line) {
+            let is_other = matches!(asked.what, What::Bad(number) if refused == Some(number));
+            return if refused == Some(13) || is_other { Ok(()) } else { Err("it is not allowed".into()) };
+        }
+        if self.rights == Rights::Unsure && refused == Some(13) {
+            return Ok(());
+        }
+        match &asked.what {
+            What::Bad(number) if refused == Some(*number) => Ok(()),
+            What::Bad(number) => Err(format!("it is to be refused {number}")),
+            What::Record(record) => self.hear_taken(asked, record, text, refused, limit, known),
+            What::Query => self.hear_answer(asked, text, limit, known),
+            What::Watch(subject, from) => {
+                let watch = Watch { next: *from, ..Watch::default() };
+                self.watches.insert(*subject, watch);
+                self.same(text, &format!("watching {}", self.watches.len()))
+            }
+            What::Unwatch(subject) => {
+                self.watches.remove(subject);
+                self.same(text, &format!("watching {}", self.watches.len()))
+            }
+            What::Token(token) => self.hear_rights(token, asked.version, text, known),
+            What::Program if text.starts_with("program 1 ") => Ok(()),
+            What::Names if text.starts_with("names {") => Ok(()),
+            What::Board if text.starts_with("board ") => Ok(()),
+            What::Row if text.starts_with("row ") || text == "none" => Ok(()),
+            What::Releases => self.hear_releases(asked, text, limit, known),
+            What::Release(at) => self.hear_release(asked, *at, text, limit, known),
+            _ => Err("no such answer".into()),
+        }
+    }
+
+    /// A token was answered, by one of the versions that were there since.
+    fn hear_rights(&mut self, token: &'static str, version: usize, text: &str, known: &Known) -> Result<(), String> {
+        let rights = known.versions_since(version).iter().map(|version| rights_in(*version, token));
+        let told = rights.into_iter().find(|rights| rights.as_ref().map_or("refused 13".into(), Rights::text) == text);
+        match told {
+            Some(Some(rights)) => {
+                self.rights = rights;
+                self.token = Some(token);
+            }
+            Some(None) => self.wrong_tokens += 1,
+            None => return Err("it has no such rights".into()),
+        }
+        Ok(())
+    }
+
+    /// What came is what was to come.
+    fn same(&self, text: &str, expected: &str) -> Result<(), String> {
+        if text == expected { Ok(()) } else { Err(format!("expected: {}", short(expected))) }
+    }
+
+    /// It tells of a log of this length, that was to be at least so long.
+    fn tell(&mut self, len: u32, floor: u32, limit: u32, known: &mut Known) -> Result<(), String> {
+        if len > known.history.len() {
+            return Err(format!("the log has {} records", known.history.len()));
+        }
+        if len > limit {
+            return Err(format!("it tells of {len} records, and {limit} are on the disk"));
+        }
+        if len < floor.max(self.told) {
+            return Err(format!("it tells of {len} records behind {}", floor.max(self.told)));
+        }
+        self.told = self.told.max(len);
+        known.told = known.told.max(len);
+        Ok(())
+    }
+
+    /// A record was answered.
+    fn hear_taken(
+        &mut self,
+        asked: &Asked,
+        record: &Record,
+        text: &str,
+        refused: Option<u32>,
+        limit: u32,
+        known: &mut Known,
+    ) -> Result<(), String> {
+        if refused == Some(14) {
+            let may_fail = asked.was_failing || known.is_failing || asked.failures != known.failures;
+            return if may_fail { Ok(()) } else { Err("its journal can be written".into()) };
+        }
+        if let Some(number) = record.refusal() {
+            return self.same(text, &format!("refused {number}"));
+        }
+        let place = number(text, 1)?;
+        if place == 0 || known.history.log.get(place as usize - 1) != Some(record) {
+            return Err("another record stands there".into());
+        }
+        if place > limit {
+            return Err(format!("it tells of {place} records, and {limit} are on the disk"));
+        }
+        if text == format!("known {place}") {
+            known.told = known.told.max(place);
+            return Ok(());
+        }
+        self.tell(place, asked.floor + 1, limit, known)?;
+        if !known.taken.insert(place) {
+            return Err("that place was taken by another".into());
+        }
+        self.same(text, &format!("taken {place}"))
+    }
+
+    /// A query was answered.
+    fn hear_answer(&mut self, asked: &Asked, text: &str, limit: u32, known: &mut Known) -> Result<(), String> {
+        if text.starts_with("refused ") {
+            let expected = known.history.answer(&asked.line, 0).unwrap_or_default();
+            return self.same(text, &expected);
+        }
+        let len = number(text, 1)?;
+        self.tell(len, asked.floor, limit, known)?;
+        let expected = known.history.answer(&asked.line, len);
+        self.same(text, &expected.unwrap_or_default())
+    }
+
+    /// How many released outputs are shown.
+    fn hear_releases(&mut self, asked: &Asked, text: &str, limit: u32, known: &mut Known) -> Result<(), String> {
+        let len = number(text, 1)?;
+        self.tell(len, asked.floor, limit, known)?;
+        let state = known.history.state(len);
+        if !state.broken.is_empty() || text == format!("releases {len} {} 0", state.released) {
+            return Ok(());
+        }
+        Err(format!("{} are released", state.released))
+    }
+
+    /// A released output.
+    fn hear_release(&mut self, asked: &Asked, at: u32, text: &str, limit: u32, known: &mut Known) -> Result<(), String> {
+        let len = number(text, 1)?;
+        self.tell(len, asked.floor, limit, known)?;
+        if text.starts_with("none ") {
+            let state = known.history.state(len);
+            let is_none = at as usize >= state.released || !state.broken.is_empty();
+            return if is_none { Ok(()) } else { Err("it is released".into()) };
+        }
+        let shown = text.splitn(3, ' ').nth(2).unwrap_or("").to_string();
+        if self.is_past { Ok(()) } else { known.note_shown(at, &shown) }
+    }
+
+    /// A push came.
+    fn hear_push(&mut self, push: &str, limit: u32, known: &mut Known) -> Result<(), String> {
+        match push.split(' ').next().unwrap_or("") {
+            "log" => self.hear_log(push, limit, known),
+            "released" => self.hear_released(push, known),
+            "frozen" => self.hear_frozen(known),
+            "vars" => {
+                let len = number(push, 1)?;
+                self.hear_value(Subject::Vars, len, push, limit, known)
+            }
+            "horizon" => {
+                let len = number(push, 1)?;
+                self.hear_value(Subject::Horizon, len, push, limit, known)
+            }
+            "breach" => {
+                let len = number(push, 1)?;
+                self.hear_value(Subject::Breach, len, push, limit, known)
+            }
+            "step" | "skipped" if self.watches.contains_key(&Subject::Steps) => Ok(()),
+            "gone" if push == "gone slow" => {
+                self.is_gone_slow = true;
+                Ok(())
+            }
+            _ => Err("nobody watches that".into()),
+        }
+    }
+
+    /// A record of the log.
+    fn hear_log(&mut self, push: &str, limit: u32, known: &mut Known) -> Result<(), String> {
+        let place = number(push, 1)?;
+        let watch = self.watches.get_mut(&Subject::Log).ok_or("the log is not watched")?;
+        if watch.next != place {
+            return Err(format!("place {} is next", watch.next));
+        }
+        watch.next += 1;
+        if place > limit {
+            return Err(format!("it tells of {place} records, and {limit} are on the disk"));
+        }
+        known.told = known.told.max(place);
+        let record = known.history.log.get(place as usize - 1).map(Record::line).unwrap_or_default();
+        self.same(push, &format!("log {place} {record}"))
+    }
+
+    /// A released output.
+    fn hear_released(&mut self, push: &str, known: &mut Known) -> Result<(), String> {
+        let at = number(push, 1)?;
+        let watch = self.watches.get_mut(&Subject::Released).ok_or("what is released is not watched")?;
+        if watch.next != at || watch.is_frozen {
+            return Err(format!("number {} is next, frozen: {}", watch.next, watch.is_frozen));
+        }
+        watch.next += 1;
+        let shown = push.splitn(3, ' ').nth(2).unwrap_or("").to_string();
+        if self.is_past { Ok(()) } else { known.note_shown(at, &shown) }
+    }
+
+    /// What is released is frozen.
+    fn hear_frozen(&mut self, known: &mut Known) -> Result<(), String> {
+        let watch = self.watches.get_mut(&Subject::Released).ok_or("what is released is not watched")?;
+        let len = known.history.len();
+        if watch.is_frozen || known.history.state(len).broken.is_empty() {
+            return Err("no origin is broken".into());
+        }
+        watch.is_frozen = true;
+        Ok(())
+    }
+
+    /// The newest value of a thing.
+    fn hear_value(&mut self, subject: Subject, len: u32, push: &str, limit: u32, known: &mut Known) -> Result<(), String> {
+        if len > known.history.len() {
+            return Err(format!("the log has {} records", known.history.len()));
+        }
+        if len > limit {
+            return Err(format!("it tells of {len} records, and {limit} are on the disk"));
+        }
+        known.told = known.told.max(len);
+        let expected = value_at(subject, len, known);
+        let watch = self.watches.get_mut(&subject).ok_or("it is not watched")?;
+        let value = push.splitn(3, ' ').nth(2).unwrap_or("").to_string();
+        if len < watch.len {
+            return Err(format!("it was told of {} records before", watch.len));
+        }
+        watch.len = len;
+        if watch.value.as_ref() == Some(&value) {
+            return Err("it was pushed before".into());
+        }
+        watch.value = Some(value);
+        self.same(push, &expected)
+    }
+
+    /// What is missing at the end, where all is told and read.
+    pub fn missing(&self, known: &mut Known) -> Option<String> {
+        if let Some(asked) = self.asked.front() {
+            return Some(format!("no reply came to: {}", asked.line));
+        }
+        let len = known.history.len();
+        let state = known.history.state(len);
+        for (subject, watch) in &self.watches {
+            let is_there = match subject {
+                Subject::Log => watch.next > len,
+                Subject::Released => !state.broken.is_empty() || watch.next as usize >= state.released,
+                Subject::Steps => true,
+                _ => {
+                    let expected = value_at(*subject, len, known);
+                    watch.value.as_deref() == Some(expected.splitn(3, ' ').nth(2).unwrap_or(""))
+                }
+            };
+            if !is_there {
+                return Some(format!("a watcher of {} was not told all: {watch:?}", subject.word()));
+            }
+        }
+        None
+    }
+}
+
+/// The line of a value over the first so many records.
+fn value_at(subject: Subject, len: u32, known: &mut Known) -> String {
+    match subject {
+        Subject::Vars => known.history.vars(len),
+        Subject::Breach => known.history.breach(len),
+        _ => known.history.answer("horizon", len).unwrap_or_default(),
+    }
+}
+
+/// A text that is not too long for a line.
+fn short(text: &str) -> String {
+    if text.len() <= 200 { text.to_string() } else { format!("{}..", text.chars().take(200).collect::<String>()) }
+}
