@@ -17,6 +17,7 @@ pub(crate) fn question_of(word: &Word) -> Option<Question>
 {
     match *word {
         Word::Vars => Some(Question::Vars),
+        Word::Cells(first, count) => Some(Question::Cells { first, count }),
         Word::Releases => Some(Question::Releases),
         Word::Release(number) => Some(Question::Release(number)),
         Word::Counts(origin) => Some(Question::Counts(origin)),

@@ -489,6 +489,7 @@ impl Client {
             Word::Program => self.write_line(&commons.facts.program),
             Word::Names => self.write_line(&commons.facts.names),
             Word::Vars => self.ask(Question::Vars),
+            Word::Cells(first, count) => self.ask(Question::Cells { first, count }),
             Word::Releases => self.ask(Question::Releases),
             Word::Release(number) => self.ask(Question::Release(number)),
             Word::Counts(origin) => self.ask(Question::Counts(origin)),

@@ -251,6 +251,7 @@ impl Watchings {
             Question::Horizon => self.horizon.missed(),
             Question::Breaches => self.breach.missed(),
             Question::Releases => {}
+            Question::Cells { .. } => {}
             Question::Release(_) => {}
             Question::Counts(_) => {}
             Question::Reached(_) => {}
