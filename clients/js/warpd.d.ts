@@ -106,11 +106,21 @@ export class Ended extends Error {}
 
 /** What the numbers of a program stand for: a number is the place in its list. */
 export class Names {
-  constructor(names?: { vars?: string[]; inputs?: [number, string][]; outputs?: string[] })
+  constructor(names?: {
+    vars?: string[]
+    inputs?: [number, string][]
+    outputs?: string[]
+    arrays?: [string, number, number][]
+    hidden?: number[]
+  })
   readonly vars: string[]
+  readonly hidden: number[]
+  readonly told: string[]
+  readonly arrays: { name: string; first: number; count: number }[]
   readonly inputs: { origin: number; name: string }[]
   readonly outputs: string[]
   var(name: string | number): number
+  array(name: string): { name: string; first: number; count: number }
   input(name: string | number): number
   owner(input: number): number
 }
@@ -170,6 +180,10 @@ export class Client {
   breach(origin: number): Promise<{ log: number; broken: boolean }>
   lost(): Promise<Counted>
   counts(origin: number): Promise<Counts>
+  /** So many variables, 1 to 4,096, from a number on: cells of arrays and hidden ones too. */
+  cells(first: number, count: number): Promise<{ log: number; first: number; values: bigint[] }>
+  /** The cells of the array of this name: Float64Array where each value is a whole number that it keeps, else BigInt64Array. */
+  array(name: string): Promise<Float64Array | BigInt64Array>
   /** Up to which tag the origin's announcements are reached. */
   reached(origin: number): Promise<{ log: number; origin: number } & Tag>
   /** One number for the set of the records that the host counted, in 32 hex digits: hosts with the same records have the same. */

@@ -123,14 +123,26 @@ function callBack(callback, value) {
 
 /** What the numbers of a program stand for, as a host tells by `names`. */
 export class Names {
-  constructor({ vars = [], inputs = [], outputs = [] } = {}) {
+  constructor({ vars = [], inputs = [], outputs = [], arrays = [], hidden = [] } = {}) {
     this.vars = vars
+    // The numbers of the variables that `vars` leaves out, and the names of those that it tells.
+    this.hidden = hidden
+    this.told = vars.filter((_, at) => !hidden.includes(at))
+    this.arrays = arrays.map(([name, first, count]) => ({ name, first, count }))
     this.inputs = inputs.map(([origin, name]) => ({ origin, name }))
     this.outputs = outputs
   }
 
+  /** The number of a variable, or of a cell: `r.board[17]`. */
   var(name) {
-    return number("variable", name, this.vars)
+    const [, array, cell] = /^(.*)\[(\d+)\]$/.exec(name) ?? []
+    const found = this.arrays.find(it => it.name === array && cell < it.count)
+    return found ? found.first + Number(cell) : number("variable", name, this.vars)
+  }
+
+  /** The cells of an array: the number of the first, and how many there are. */
+  array(name) {
+    return this.arrays[number("array", name, this.arrays.map(it => it.name))]
   }
 
   input(name) {
@@ -188,11 +200,11 @@ const matching = form => text => {
 }
 
 const textOf = matching(/./)
-const [MOST_VARS, MOST_PORTS, MOST_PENDING] = [256, 64, 256]
+const [MOST_VARS, MOST_PORTS, MOST_PENDING, MOST_ARRAYS, MOST_VALUES, MOST_CELLS] = [1_024, 256, 256, 256, 66_560, 4_096]
 
 const PARTS = {
   log: within(1e7), place: within(1e7, 1), events: within(1e7), withdrawn: within(1e7), rows: within(2 ** 20), watched: within(6),
-  origin: within(63), input: within(63), output: within(63), time: within(15_625_000), micro: within(255), index: within(2 ** 32 - 1),
+  origin: within(63), input: within(255), output: within(255), time: within(15_625_000), micro: within(255), index: within(2 ** 32 - 1),
   count: within(Number.MAX_SAFE_INTEGER), number: within(99, 1), value: integer, frozen: flag, broken: flag,
   version: within(99, 1), fingerprint: matching(/^[0-9a-f]{64}$/), digits: matching(/^[0-9a-f]{32}$/),
 }
@@ -223,7 +235,10 @@ const RECORDS = {
   announce: fields("origin time micro events withdrawn"),
 }
 
+const ALL = fields("time micro events withdrawn")
+
 function recordOf([kind, ...words]) {
+  if (kind === "announce" && words[0] === "*") return { kind, origin: null, ...ALL(words.slice(1)) }
   if (!Object.hasOwn(RECORDS, kind)) throw new SyntaxError("no record")
   return { kind, ...RECORDS[kind](words) }
 }
@@ -232,8 +247,11 @@ function recordOf([kind, ...words]) {
 const jsonOf = text => JSON.parse(text.replace(/([:,[])(-?\d[\d.eE+-]*)/g, '$1"$2"'))
 
 function namesOf(text) {
-  const { vars, inputs, outputs } = jsonOf(text)
+  const { vars, inputs, outputs, arrays = [], hidden = [] } = jsonOf(text)
+  const [numberOf, countOf] = [within(MOST_VALUES), within(2 ** 16, 1)]
   return new Names({
+    arrays: listOf(arrays, MOST_ARRAYS, ([name, first, count]) => [textOf(name), numberOf(first), countOf(count)]),
+    hidden: listOf(hidden, MOST_VARS, numberOf),
     vars: listOf(vars, MOST_VARS, textOf),
     inputs: listOf(inputs, MOST_PORTS, ([origin, name]) => [PARTS.origin(origin), textOf(name)]),
     outputs: listOf(outputs, MOST_PORTS, textOf),
@@ -246,6 +264,7 @@ const READERS = {
   known: words => ({ ...PLACE(words), isNew: false }),
   var: fields("log value"),
   vars: ([log, ...values]) => ({ ...LOG([log]), values: listOf(values, MOST_VARS, integer) }),
+  cells: ([log, first, ...values]) => ({ ...LOG([log]), first: within(MOST_VALUES)(first), values: listOf(values, MOST_CELLS, integer) }),
   outputs: COUNTED,
   released: COUNTED,
   lost: COUNTED,
@@ -263,7 +282,7 @@ const READERS = {
   program: fields("version fingerprint"),
   names: words => namesOf(words.join(" ")),
   may: words => {
-    if (!/^(\*|read)$/.test(words)) listOf(words, MOST_PORTS, PARTS.origin)
+    if (!/^(\*|read)$/.test(words)) listOf(words, 64, PARTS.origin)
     return { may: words.join(" ") }
   },
   counts: words => {
@@ -312,7 +331,7 @@ function executedOf(text) {
     ...TAG(tag),
     given: valuesOf(given, MOST_PORTS),
     due: listOf(due, MOST_PENDING, ({ target, value }) => ({ target: textOf(target), value: integer(value) })),
-    changed: valuesOf(changed, MOST_VARS),
+    changed: valuesOf(changed, MOST_VALUES),
     outputs: valuesOf(outputs, MOST_PORTS),
     pending: within(MOST_PENDING)(pending),
   }
@@ -324,7 +343,10 @@ const PUSHES = {
   frozen: words => ({ ...NOTHING(words), frozen: true }),
   vars: READERS.vars,
   horizon: HORIZON,
-  breach: ([log, ...origins]) => ({ ...LOG([log]), origins: listOf(origins, MOST_PORTS, PARTS.origin) }),
+  breach: ([log, ...origins]) => {
+    const jointly = origins.at(-1) === "*"
+    return { ...LOG([log]), origins: listOf(jointly ? origins.slice(0, -1) : origins, 64, PARTS.origin), jointly }
+  },
   step: words => executedOf(words.join(" ")),
   skipped: fields("skipped:count"),
 }
@@ -631,7 +653,7 @@ export class Client {
     if (!Object.hasOwn(PUSHES, kind)) return
     const value = this.#read(kind, words, text)
     if (!value) return
-    if (kind === "vars") value.values.forEach((it, at) => (this.vars[this.names.vars[at] ?? at] = it))
+    if (kind === "vars") value.values.forEach((it, at) => (this.vars[this.names.told[at] ?? at] = it))
     this.#hasBrought ||= kind === "log" || kind === "released"
     const watch = this.#watches.get(SUBJECT_OF[kind] ?? kind)
     if (!watch) return
@@ -701,7 +723,7 @@ export class Client {
   async readVars() {
     await this.ready
     const { log, values } = await this.ask("vars")
-    return { log, values: Object.fromEntries(values.map((it, at) => [this.names.vars[at] ?? at, it])) }
+    return { log, values: Object.fromEntries(values.map((it, at) => [this.names.told[at] ?? at, it])) }
   }
 
   outputs() {
@@ -734,6 +756,20 @@ export class Client {
 
   lost() {
     return this.ask("lost")
+  }
+
+  /** So many variables, 1 to 4,096, from a number on: cells of arrays and hidden ones too. */
+  cells(first, count) {
+    return this.ask(`cells ${first} ${count}`)
+  }
+
+  /** The cells of the array of this name, asked for in pieces: Float64Array where each value is a whole number that it keeps, else BigInt64Array. */
+  async array(name) {
+    const { first, count } = this.names.array(name)
+    const starts = Array.from({ length: Math.ceil(count / MOST_CELLS) }, (_, at) => first + at * MOST_CELLS)
+    const pieces = await Promise.all(starts.map(at => this.cells(at, Math.min(MOST_CELLS, first + count - at))))
+    const values = pieces.flatMap(it => it.values)
+    return values.every(it => Number.isSafeInteger(Number(it))) ? Float64Array.from(values, Number) : BigInt64Array.from(values)
   }
 
   /** How many names of an origin have an event, how many a withdrawal, and the greatest tag of both. */

@@ -13,10 +13,10 @@ from collections import deque
 from collections.abc import Callable, Iterator
 from typing import NamedTuple, Optional, TypeVar, Union
 
-from . import Client, Counts, Ended, Horizon, Names, Output, Reached, Record, Tag, cut, record_of, reply_of
+from . import Cells, Client, Counts, Ended, Horizon, Names, Output, Reached, Record, Tag, cut, record_of, reply_of
 from .replies import (
-    COUNT, FLAG, LOG, MICRO, MOST_ORIGINS, MOST_PORTS, MOST_VARIABLES, NUMBER, ORIGIN, PLACE, PORT, TIME, VALUE, json_of, no_reply,
-    number_of, numbers_of,
+    COUNT, FLAG, LOG, MICRO, MOST_CELLS, MOST_ORIGINS, MOST_PORTS, MOST_VALUES, MOST_VARIABLES, NUMBER, ORIGIN, PLACE, PORT, TIME,
+    VALUE, json_of, no_reply, number_of, numbers_of,
 )
 
 Answer = TypeVar("Answer")
@@ -80,10 +80,11 @@ class Frozen(NamedTuple):
 
 
 class Broken(NamedTuple):
-    """A push: the broken origins."""
+    """A push: the broken origins, and whether an announcement of all origins together is."""
 
     log: int
     origins: tuple[int, ...]
+    jointly: bool = False
 
 
 class Due(NamedTuple):
@@ -182,7 +183,7 @@ def _step_of(told: dict) -> Union[Step, Rollback]:
     if not _is_number(told["pending"], MOST_PENDING):
         raise ValueError(told)
     given, changed, outputs = (_values_of(told[key], most) for key, most in
-                               (("given", MOST_PORTS), ("changed", MOST_VARIABLES), ("outputs", MOST_PORTS)))
+                               (("given", MOST_PORTS), ("changed", MOST_VALUES), ("outputs", MOST_PORTS)))
     return Step(_tag_of(told["tag"]), given, _due_of(told["due"]), changed, outputs, told["pending"])
 
 
@@ -197,8 +198,10 @@ def _horizon_of(words: list[str]) -> Horizon:
 
 
 def _broken_of(words: list[str]) -> Broken:
+    jointly = words[1:] != [] and words[-1] == "*"
+    words = words[:-1] if jointly else words
     log, *origins = numbers_of(words, LOG, *[ORIGIN] * min(len(words) - 1, MOST_ORIGINS))
-    return Broken(log, tuple(origins))
+    return Broken(log, tuple(origins), jointly)
 
 
 # What each push says behind its first word, and of what it tells.
@@ -234,6 +237,12 @@ def _variables_of(text: str) -> Variables:
     words = text.split(" ")
     log, *values = numbers_of(words, LOG, *[VALUE] * min(len(words) - 1, MOST_VARIABLES))
     return Variables(log, tuple(values))
+
+
+def _cells_of(text: str) -> Cells:
+    words = text.split(" ")
+    log, first, *values = numbers_of(words, LOG, NUMBER, *[VALUE] * min(len(words) - 2, MOST_CELLS))
+    return Cells(log, first, tuple(values))
 
 
 def _releases_of(text: str) -> Releases:
@@ -325,6 +334,16 @@ class HostClient(Client):
 
     def vars(self) -> Variables:
         return self._told("vars", _variables_of)
+
+    def cells(self, first: Union[int, str], count: Optional[int] = None) -> Cells:
+        """So many variables, 1 to 4,096, from a number on, cells of arrays and hidden ones too; or all cells of the array of this name, which
+        are asked for in pieces, each at its length of the log."""
+        if isinstance(first, str):
+            first, count = self.names.array(first)
+        if count is None:
+            raise ValueError("how many cells are wanted?")
+        pieces = [self._told(f"cells {at} {min(MOST_CELLS, first + count - at)}", _cells_of) for at in range(first, first + count, MOST_CELLS)]
+        return Cells(pieces[-1].log, first, tuple(value for piece in pieces for value in piece.values))
 
     def releases(self) -> Releases:
         return self._told("releases", _releases_of)

@@ -18,7 +18,9 @@ MEANINGS = {
     11: "there is no board: only a server has one", 13: "this client may not send that", 14: "the journal cannot be written",
 }
 # No program has more, of any version.
-MOST_ORIGINS, MOST_VARIABLES, MOST_PORTS = 64, 256, 64
+MOST_ORIGINS, MOST_VARIABLES, MOST_PORTS = 64, 1_024, 256
+# With the cells of its arrays, of which it has so many; and how many variables one `cells` tells.
+MOST_ARRAYS, MOST_VALUES, MOST_CELLS = 256, 66_560, 4_096
 MOST_NAMES = {"vars": MOST_VARIABLES, "inputs": MOST_PORTS, "outputs": MOST_PORTS}
 # A board takes no more rows: of a program of version 3, and of one before.
 MOST_ROWS_OF_3, MOST_ROWS = 1_048_576, 4_096
@@ -88,7 +90,19 @@ class Announce(NamedTuple):
         return f"announce {self.origin} {self.tag.time} {self.tag.micro} {self.events} {self.withdrawn}"
 
 
-Record = Union[Event, Withdraw, Announce]
+class AnnounceAll(NamedTuple):
+    """Before this tag all origins together have so many names with an event, and with a withdrawal, and will add none. Programs of
+    version 4 alone take it."""
+
+    tag: Tag
+    events: int
+    withdrawn: int
+
+    def __str__(self) -> str:
+        return f"announce * {self.tag.time} {self.tag.micro} {self.events} {self.withdrawn}"
+
+
+Record = Union[Event, Withdraw, Announce, AnnounceAll]
 
 
 class Taken(NamedTuple):
@@ -156,6 +170,14 @@ class Counts(NamedTuple):
     last: Tag
 
 
+class Cells(NamedTuple):
+    """Variables from this number on, cells of arrays among them, at one length of the log."""
+
+    log: int
+    first: int
+    values: tuple[int, ...]
+
+
 class Reached(NamedTuple):
     """Up to which tag the announcements of an origin are reached."""
 
@@ -196,6 +218,9 @@ class Names(NamedTuple):
     vars: Sequence[str]
     inputs: Sequence[tuple[int, str]]
     outputs: Sequence[str]
+    # Each array with the number of its first cell, and how many it has; and the numbers of the variables that `vars` leaves out.
+    arrays: Sequence[tuple[str, int, int]] = ()
+    hidden: Sequence[int] = ()
 
     @classmethod
     def read(cls, path: Union[str, PathLike]) -> Names:
@@ -208,19 +233,35 @@ class Names(NamedTuple):
         """Those of such a text. One that is none, or has more names than a program, is a ValueError."""
         try:
             told = json_of(text)
-            made = cls(told["vars"], [(origin, name) for origin, name in told["inputs"]], told["outputs"])
+            arrays = [(name, first, count) for name, first, count in told.get("arrays", [])]
+            inputs = [(origin, name) for origin, name in told["inputs"]]
+            made = cls(told["vars"], inputs, told["outputs"], arrays, told.get("hidden", []))
         except (KeyError, TypeError, ValueError, RecursionError):
             raise ValueError(f"no names: {cut(text)}") from None
         are_lists = all(isinstance(told[key], list) and len(told[key]) <= most for key, most in MOST_NAMES.items())
-        names = (*made.vars, *made.outputs, *(name for _, name in made.inputs))
+        names = (*made.vars, *made.outputs, *(name for _, name in made.inputs), *(name for name, *_ in made.arrays))
+        numbers = (*made.hidden, *(it for _, *cells in made.arrays for it in cells))
         are_origins = all(type(origin) is int and 0 <= origin < MOST_ORIGINS for origin, _ in made.inputs)
-        if not are_lists or not are_origins or not all(isinstance(it, str) for it in names):
+        are_few = len(made.arrays) <= MOST_ARRAYS and all(type(it) is int and 0 <= it <= MOST_VALUES for it in numbers)
+        if not are_lists or not are_origins or not are_few or not all(isinstance(it, str) for it in names):
             raise ValueError(f"no names: {cut(text)}")
         return made
 
     def var(self, name: Union[int, str]) -> int:
         """The number of a variable; a number is its own. What none is called is a KeyError that tells the nearest."""
-        return name if isinstance(name, int) else self._place("variable", name, self.vars)
+        if isinstance(name, int):
+            return name
+        array, _, cell = name.removesuffix("]").partition("[")
+        for known, first, count in self.arrays:
+            if known == array and cell.isdecimal() and int(cell) < count:
+                return first + int(cell)
+        return self._place("variable", name, self.vars)
+
+    def array(self, name: str) -> tuple[int, int]:
+        """The number of the first cell of an array, and how many it has."""
+        names = [known for known, *_ in self.arrays]
+        _, first, count = self.arrays[self._place("array", name, names)]
+        return first, count
 
     def input(self, name: Union[int, str]) -> int:
         """The number of an input, in the same way."""
@@ -295,6 +336,9 @@ def record_of(words: Sequence[str]) -> Record:
     """The record whose words these are; what is none is a ValueError."""
     if not words or words[0] not in RECORDS:
         raise ValueError(f"no record: {cut(' '.join(words[:1]))}")
+    if words[:2] == ["announce", "*"]:
+        time, micro, events, withdrawn = numbers_of(words[2:], TIME, MICRO, NAMES, NAMES)
+        return AnnounceAll(Tag(time, micro), events, withdrawn)
     ranges, make = RECORDS[words[0]]
     return make(*numbers_of(words[1:], *ranges))
 

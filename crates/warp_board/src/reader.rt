@@ -66,7 +66,7 @@ impl Reader {
         requires { self.old.board ≡ board.now }
         ensures row { result ≡ slice_get self.old.rows i }
         ensures none { IsNone result ↔ (length self.old.rows ≤ i) }
-        ensures port { IfSome result (λ row. row.port < most_outputs) }
+        ensures port { IfSome result (λ row. row.port < most_outputs widest) }
         ensures same { self.new ≡ self.old }
     {
         if i >= self.count {

@@ -1,6 +1,6 @@
 //! Spelled rows, a full board, and a writer that two readers follow from threads of their own.
 ghost use Rattle.std.specs.Prelude.{◌≡◌, ◌<◌, IfSome};
-ghost use Rattle.warp_tag.specs.Limits.{most_outputs};
+ghost use Rattle.warp_tag.specs.Limits.{most_outputs, widest};
 
 use crate::{
     Board, Full, PORTS, Reader, Writer, board, join_readers, meet, read_row, spell_row,
@@ -14,7 +14,7 @@ use warp_tag::{Out, Tag};
 
 fn out(time: u64, micro: u32, port: u32, value: i64) -> Option<Out>
     requires { port < PORTS }
-    ensures { IfSome result (λ row. row.port < most_outputs) }
+    ensures { IfSome result (λ row. row.port < most_outputs widest) }
 {
     let tag = Tag::new(time, micro)?;
     Some(Out { tag, port, value })
@@ -67,7 +67,7 @@ const ROWS: u64 = 1000;
 
 // The row that the writer of the test below puts at this place.
 fn row_at(place: u64) -> Option<Out>
-    ensures { IfSome result (λ row. row.port < most_outputs) }
+    ensures { IfSome result (λ row. row.port < most_outputs widest) }
 {
     out(
         place,

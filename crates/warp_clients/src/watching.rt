@@ -34,6 +34,7 @@ pub(crate) fn is_watch(word: &Word) -> bool
         Word::Program
         | Word::Names
         | Word::Vars
+        | Word::Cells(..)
         | Word::Releases
         | Word::Digest
         | Word::Release(_)

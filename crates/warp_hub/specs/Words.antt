@@ -18,11 +18,16 @@ IsWatch watch.Horizon = Unit {0}
 IsWatch watch.Breach = Unit {0}
 IsWatch watch.Steps = Unit {0}
 
+-- the most variables that one line tells
+abbrev pub most_cells : ℕ
+most_cells = 4096
+
 -- the ranges of a word
 abbrev pub IsWord : Word → Type 0
 IsWord word.Program = Unit {0}
 IsWord word.Names = Unit {0}
 IsWord word.Vars = Unit {0}
+IsWord (word.Cells first count) = (first ≤ last_number) × ((1 ≤ count) × (count ≤ most_cells))
 IsWord word.Releases = Unit {0}
 IsWord word.Digest = Unit {0}
 IsWord (word.Release number) = number ≤ last_number
@@ -54,6 +59,7 @@ abbrev pub word_words : Word → List (List ℕ)
 word_words word.Program = codes "program" ∷ []
 word_words word.Names = codes "names" ∷ []
 word_words word.Vars = codes "vars" ∷ []
+word_words (word.Cells first count) = codes "cells" ∷ decimal first ∷ decimal count ∷ []
 word_words word.Releases = codes "releases" ∷ []
 word_words word.Digest = codes "digest" ∷ []
 word_words (word.Release number) = codes "release" ∷ decimal number ∷ []

@@ -1,6 +1,6 @@
 //! Words: the lines that a host knows beside those of a session. Each has one spelling.
 
-ghost use Rattle.std.specs.Prelude.{◌≡◌, ℕ, List, ◌≤◌, [], ◌∷◌, IfNone, IfSome, IsTrue, ◌↔◌, decimal, map};
+ghost use Rattle.std.specs.Prelude.{◌≡◌, ℕ, List, ◌≤◌, [], ◌∷◌, IfNone, IfSome, IsTrue, ◌↔◌, codes, decimal, map};
 ghost use Rattle.warp_tag.specs.Limits.{last_number};
 ghost use Rattle.warp_hub.specs.Words.{IsToken, IsWatch, IsWord, subject_name, token_spelling, watch_words};
 ghost use Rattle.warp_hub.specs.Words.{word_spelling, word_words};
@@ -9,6 +9,7 @@ ghost use Rattle.warp_hub.specs.declared.words.Watch.{Watch};
 ghost use Rattle.warp_hub.specs.declared.words.Word.{Word};
 
 use warp_record::{is_keyword, read_u32, split_words};
+use warp_watch::MOST_CELLS;
 
 /// What can be watched.
 #[derive(Clone, Copy)]
@@ -53,6 +54,8 @@ pub enum Word {
     Names,
     /// `vars`: all variables.
     Vars,
+    /// `cells K C`: so many variables from this one on, hidden ones and cells too; C is 1 to 4,096.
+    Cells(u32, u32),
     /// `releases`: how many released outputs are shown.
     Releases,
     /// `digest`: one number for the set of the log's records.
@@ -178,6 +181,20 @@ fn watch_from(word: &[u8], number: u32) -> Option<Watch>
     None
 }
 
+/// The word for so many variables from one on that these two words behind the first spell; `None` where there is none.
+fn cells_of(first: &[u8], count: &[u8]) -> Option<Word>
+    ensures found { IfSome result (λ said. IsWord said × (codes "cells" ∷ first.now ∷ count.now ∷ [] ≡ word_words said)) }
+    ensures none { IfNone result ((said : Word) → IsWord said →
+        codes "cells" ∷ first.now ∷ count.now ∷ [] ≡ word_words said → ⊥) }
+{
+    let first = read_index(first)?;
+    let count = read_u32(count, MOST_CELLS)?;
+    if count == 0 {
+        return None;
+    }
+    Some(Word::Cells(first, count))
+}
+
 /// The word that is spelled by these three; `None` where there is none.
 fn word_of_three(word: &[u8], what: &[u8], number: &[u8]) -> Option<Word>
     ensures found { IfSome result (λ said. IsWord said
@@ -185,6 +202,9 @@ fn word_of_three(word: &[u8], what: &[u8], number: &[u8]) -> Option<Word>
     ensures none { IfNone result ((said : Word) → IsWord said →
         word.now ∷ what.now ∷ number.now ∷ [] ≡ word_words said → ⊥) }
 {
+    if is_keyword(word, b"cells") {
+        return cells_of(what, number);
+    }
     if !is_keyword(word, b"watch") {
         return None;
     }

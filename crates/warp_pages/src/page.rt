@@ -5,7 +5,7 @@ use http::HeaderValue;
 /// What the page may do in a browser: its own style and script alone, told by their SHA-256, and connect to its host.
 const POLICY: &str = "\
 default-src 'none'; \
-script-src 'sha256-QdUXZyE/owLmUjSqgrVdirTqCWBp94ZJvgumCzdYXzE='; \
+script-src 'sha256-kqPulM5zKqltxd8utFSRTFKM9PfSpPkR6plCp326Y8g='; \
 style-src 'sha256-w6wrpSjQQo2ITNrYMfX6Z7+uynafgFVJ8u9XhCCqJFo='; \
 connect-src 'self'; \
 img-src data:; \
@@ -195,8 +195,11 @@ throw error
 }
 }
 class Names{
-constructor({vars=[],inputs=[],outputs=[]}={}){
+constructor({vars=[],inputs=[],outputs=[],arrays=[],hidden=[]}={}){
 this.vars=vars
+this.hidden=hidden
+this.told=vars.filter((_,at)=>!hidden.includes(at))
+this.arrays=arrays.map(([name,first,count])=>({name,first,count}))
 this.inputs=inputs.map(([origin,name])=>({origin,name}))
 this.outputs=outputs
 }
@@ -228,10 +231,10 @@ if(typeof text==="string"&&form.test(text))return text
 throw new SyntaxError("another text is wanted")
 }
 const textOf = matching(/./)
-const [MOST_VARS,MOST_PORTS,MOST_PENDING]=[256,64,256]
+const [MOST_VARS,MOST_PORTS,MOST_PENDING,MOST_ARRAYS,MOST_VALUES,MOST_CELLS]=[1_024,256,256,256,66_560,4_096]
 const PARTS={
 log:within(1e7),place:within(1e7,1),events:within(1e7),withdrawn:within(1e7),rows:within(2 ** 20),watched:within(6),
-origin:within(63),input:within(63),output:within(63),time:within(15_625_000),micro:within(255),index:within(2 ** 32 - 1),
+origin:within(63),input:within(255),output:within(255),time:within(15_625_000),micro:within(255),index:within(2 ** 32 - 1),
 count:within(Number.MAX_SAFE_INTEGER),number:within(99,1),value:integer,frozen:flag,broken:flag,
 version: within(99, 1), fingerprint: matching(/^[0-9a-f]{64}$/), digits: matching(/^[0-9a-f]{32}$/),
 }
@@ -255,14 +258,19 @@ event:fields("origin time micro input value"),
 withdraw:fields("origin time micro"),
 announce:fields("origin time micro events withdrawn"),
 }
+const ALL=fields("time micro events withdrawn")
 function recordOf([kind,...words]){
+if(kind==="announce"&&words[0]==="*")return{kind,origin:null,...ALL(words.slice(1))}
 if(!Object.hasOwn(RECORDS,kind))throw new SyntaxError("no record")
 return{kind,...RECORDS[kind](words)}
 }
 const jsonOf = text => JSON.parse(text.replace(/([:,[])(-?\d[\d.eE+-]*)/g, '$1"$2"'))
 function namesOf(text){
-const{vars,inputs,outputs}=jsonOf(text)
+const{vars,inputs,outputs,arrays=[],hidden=[]}=jsonOf(text)
+const [numberOf,countOf]=[within(MOST_VALUES),within(2 ** 16,1)]
 return new Names({
+arrays:listOf(arrays,MOST_ARRAYS,([name,first,count])=>[textOf(name),numberOf(first),countOf(count)]),
+hidden:listOf(hidden,MOST_VARS,numberOf),
 vars:listOf(vars,MOST_VARS,textOf),
 inputs:listOf(inputs,MOST_PORTS,([origin,name])=>[PARTS.origin(origin),textOf(name)]),
 outputs:listOf(outputs,MOST_PORTS,textOf),
@@ -273,6 +281,7 @@ taken:words=>({...PLACE(words),isNew:true}),
 known:words=>({...PLACE(words),isNew:false}),
 var:fields("log value"),
 vars:([log,...values])=>({...LOG([log]),values:listOf(values,MOST_VARS,integer)}),
+cells:([log,first,...values])=>({...LOG([log]),first:within(MOST_VALUES)(first),values:listOf(values,MOST_CELLS,integer)}),
 outputs:COUNTED,
 released:COUNTED,
 lost:COUNTED,
@@ -290,7 +299,7 @@ watching:fields("count:watched"),
 program:fields("version fingerprint"),
 names:words=>namesOf(words.join(" ")),
 may:words=>{
-if (!/^(\*|read)$/.test(words)) listOf(words, MOST_PORTS, PARTS.origin)
+if (!/^(\*|read)$/.test(words)) listOf(words, 64, PARTS.origin)
 return{may:words.join(" ")}
 },
 counts:words=>{
@@ -329,7 +338,7 @@ return{
 ...TAG(tag),
 given:valuesOf(given,MOST_PORTS),
 due:listOf(due,MOST_PENDING,({target,value})=>({target:textOf(target),value:integer(value)})),
-changed:valuesOf(changed,MOST_VARS),
+changed:valuesOf(changed,MOST_VALUES),
 outputs:valuesOf(outputs,MOST_PORTS),
 pending:within(MOST_PENDING)(pending),
 }
@@ -340,7 +349,10 @@ released:fields("index time micro output value"),
 frozen:words=>({...NOTHING(words),frozen:true}),
 vars:READERS.vars,
 horizon:HORIZON,
-breach:([log,...origins])=>({...LOG([log]),origins:listOf(origins,MOST_PORTS,PARTS.origin)}),
+breach:([log,...origins])=>{
+const jointly=origins.at(-1)==="*"
+return{...LOG([log]),origins:listOf(jointly?origins.slice(0,-1):origins,64,PARTS.origin),jointly}
+},
 step:words=>executedOf(words.join(" ")),
 skipped:fields("skipped:count"),
 }
@@ -585,7 +597,7 @@ const [kind,...words]=text.split(" ")
 if(!Object.hasOwn(PUSHES,kind))return
 const value=this.#read(kind,words,text)
 if(!value)return
-if(kind==="vars")value.values.forEach((it,at)=>(this.vars[this.names.vars[at]??at]=it))
+if(kind==="vars")value.values.forEach((it,at)=>(this.vars[this.names.told[at]??at]=it))
 this.#hasBrought||=kind==="log"||kind==="released"
 const watch=this.#watches.get(SUBJECT_OF[kind]??kind)
 if(!watch)return

@@ -6,7 +6,7 @@ use Rattle.serde_json.specs.declared.value.Value.{Value}
 use Rattle.serde_json.specs.Data.{Data, array}
 use Rattle.warp_prog.specs.Chain.{◌>>=◌}
 use Rattle.warp_prog.specs.Terms.{term_of}
-use Rattle.warp_prog.specs.Json.{each, is_one_of, two_items, three_items}
+use Rattle.warp_prog.specs.Json.{each, is_one_of, two_items, three_items, four_items}
 
 -- what was read so far, and then the rest
 abbrev pub after : {A : Type 0} → List A → Option (List A) → Option (List A)
@@ -24,6 +24,14 @@ not_three (a ∷ []) h = refl
 not_three (a ∷ (b ∷ [])) h = refl
 not_three (a ∷ (b ∷ (c ∷ []))) h = absurd (h refl)
 not_three (a ∷ (b ∷ (c ∷ (d ∷ vs)))) h = refl
+
+pub not_four : (vs : List Value) → ¬ (length vs ≡ 4) → None ≡ four_items (items_view vs)
+not_four [] h = refl
+not_four (a ∷ []) h = refl
+not_four (a ∷ (b ∷ [])) h = refl
+not_four (a ∷ (b ∷ (c ∷ []))) h = refl
+not_four (a ∷ (b ∷ (c ∷ (d ∷ [])))) h = absurd (h refl)
+not_four (a ∷ (b ∷ (c ∷ (d ∷ (e ∷ vs))))) h = refl
 
 pub too_few : (vs : List Value) → length vs < 2 → term_of (array (items_view vs)) ≡ None
 too_few [] h = refl

@@ -1,9 +1,10 @@
 //! A program file written back as one text, by which programs are told apart, and the fingerprint of that text.
-ghost use Rattle.std.specs.Prelude.{◌≡◌, ◌++◌, IfOk, OnOk, string_bytes};
+ghost use Rattle.std.specs.Prelude.{◌≡◌, ◌++◌, IfOk, OnOk, option_map, string_bytes};
 ghost use Rattle.std.specs.Fmt.{signed_decimal};
 ghost use Rattle.warp_prog.specs.Canonical.{canonical_of, fingerprint_of, head_text, quoted, reactor_front};
 ghost use Rattle.warp_prog.specs.Canonical.{reactor_rest, reactor_text};
-ghost use Rattle.warp_prog.specs.View.{file_tree, reactor_tree};
+ghost use Rattle.warp_prog.specs.Canonical.{begin_part};
+ghost use Rattle.warp_prog.specs.View.{begin_tree, file_tree, reactor_tree};
 
 mod body;
 mod list;
@@ -11,9 +12,9 @@ mod number;
 mod part;
 mod reaction;
 
-use crate::file::{ProgramFile, Reactor};
+use crate::file::{Beginning, ProgramFile, Reactor};
 use crate::name::Name;
-pub(crate) use list::{Spell, add_comma, spell_list, spell_quoted};
+pub(crate) use list::{Spell, add_comma, spell_list, spell_quoted, spell_unless_empty};
 use number::spell_keyed;
 use sha2::{Digest, Sha256};
 use std::alloc::{AllocError, Global};
@@ -47,8 +48,25 @@ fn spell_file(text: &mut String, file: &ProgramFile) -> Result<(), AllocError>
     spell_list(text, ",\"links\":", &file.links)?;
     spell_list(text, ",\"inputs\":", &file.inputs)?;
     spell_list(text, ",\"outputs\":", &file.outputs)?;
+    spell_begin(text, file.begin.as_ref())?;
     text.push_str("}")?;
     Ok(())
+}
+
+/// Adds where a file begins, with its key, if it goes on from another one.
+fn spell_begin(text: &mut String, begin: Option<&Beginning>) -> Result<(), AllocError>
+    ensures { OnOk result (string_bytes text.new
+        ≡ string_bytes text.old ++ begin_part (option_map (λ b. begin_tree b.now) begin)) }
+{
+    match begin {
+        None => Ok(()),
+        Some(begin) => {
+            spell_list(text, ",\"begin\":{\"pending\":", &begin.pending)?;
+            spell_keyed(text, ",\"lost\":", begin.lost)?;
+            spell_keyed(text, ",\"since\":", begin.since)?;
+            text.push_str("}")
+        }
+    }
 }
 
 /// Adds the numbers of a file with their keys.
@@ -107,19 +125,21 @@ fn spell_reactor(text: &mut String, reactor: &Reactor) -> Result<(), AllocError>
     spell_rest(text, reactor)
 }
 
-/// Adds the name, the variables and the ports of a reactor.
+/// Adds the name, the variables, the arrays, if there are any, and the ports of a reactor.
 fn spell_front(text: &mut String, reactor: &Reactor) -> Result<(), AllocError>
     ensures { OnOk result
         (string_bytes text.new ≡ string_bytes text.old ++ reactor_front (reactor_tree reactor.now)) }
 {
     spell_named(text, "{\"name\":", &reactor.name)?;
     spell_list(text, ",\"vars\":", &reactor.variables)?;
+    spell_unless_empty(text, ",\"arrays\":", &reactor.arrays)?;
     spell_list(text, ",\"inputs\":", &reactor.inputs)?;
     spell_list(text, ",\"outputs\":", &reactor.outputs)?;
     Ok(())
 }
 
-/// Adds the actions, the timers and the reactions of a reactor, and its end.
+/// Adds the actions, the timers and the reactions of a reactor, how people call what is in it and what is hidden, if
+/// anything is, and its end.
 fn spell_rest(text: &mut String, reactor: &Reactor) -> Result<(), AllocError>
     ensures { OnOk result
         (string_bytes text.new ≡ string_bytes text.old ++ reactor_rest (reactor_tree reactor.now)) }
@@ -127,6 +147,8 @@ fn spell_rest(text: &mut String, reactor: &Reactor) -> Result<(), AllocError>
     spell_list(text, ",\"actions\":", &reactor.actions)?;
     spell_list(text, ",\"timers\":", &reactor.timers)?;
     spell_list(text, ",\"reactions\":", &reactor.reactions)?;
+    spell_unless_empty(text, ",\"called\":", &reactor.called)?;
+    spell_unless_empty(text, ",\"hidden\":", &reactor.hidden)?;
     text.push_str("}")?;
     Ok(())
 }

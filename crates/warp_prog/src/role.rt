@@ -1,5 +1,6 @@
 //! What is asked of a name where it stands.
 ghost use Rattle.std.specs.Prelude.{◌≡◌};
+ghost use Rattle.warp_prog.specs.Names.{is_thing};
 ghost use Rattle.warp_prog.specs.Uses.{carries_value};
 ghost use Rattle.warp_prog.specs.View.{reactor_tree};
 ghost use Rattle.warp_prog.specs.inner.Rule.{fits};
@@ -25,6 +26,10 @@ pub(crate) enum Role {
     Written,
     /// Where a link or a program input ends.
     Input,
+    /// What has cells.
+    Array,
+    /// What people may call otherwise: anything in the reactor.
+    Thing,
 }
 
 /// Whether a name stands for a thing of the reactor that the role asks. Where things share a name, one of a kind that
@@ -42,7 +47,21 @@ pub(crate) fn fits(reactor: &Reactor, role: Role, name: &Name) -> bool
         Role::Action => is_among(&reactor.actions, name),
         Role::Written => is_among(&reactor.outputs, name) || is_among(&reactor.actions, name),
         Role::Input => is_among(&reactor.inputs, name),
+        Role::Array => is_among(&reactor.arrays, name),
+        Role::Thing => is_thing(reactor, name),
     }
+}
+
+/// Whether a name is that of a thing in the reactor.
+fn is_thing(reactor: &Reactor, name: &Name) -> bool
+    ensures { result ≡ is_thing (reactor_tree reactor.now) name.now }
+{
+    is_among(&reactor.variables, name)
+        || is_among(&reactor.arrays, name)
+        || is_among(&reactor.outputs, name)
+        || is_among(&reactor.actions, name)
+        || is_among(&reactor.inputs, name)
+        || is_among(&reactor.timers, name)
 }
 
 fn carries_value(reactor: &Reactor, name: &Name) -> bool

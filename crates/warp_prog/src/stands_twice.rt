@@ -1,14 +1,16 @@
 //! Names and ports that stand twice where they may stand once.
-ghost use Rattle.std.specs.Prelude.{◌≡◌, ◌≤◌, ◌+◌, ◌-◌, ◌||◌, List, ℕ, map, bytes_eq, SomeIff, if◌then◌else◌};
+ghost use Rattle.std.specs.Prelude.{◌≡◌, ◌≤◌, ◌+◌, ◌-◌, ◌||◌, List, [], ℕ, map, unwrap_or, bytes_eq, SomeIff, if◌then◌else◌};
 ghost use Rattle.std.specs.List.{list_any};
 ghost use Rattle.warp_prog.specs.File.{ReactorPart};
 ghost use Rattle.warp_prog.specs.Twice.{how_often, stands_twice, repeats, reactor_names, all_names, same_port, targets};
-ghost use Rattle.warp_prog.specs.Twice.{names_twice};
+ghost use Rattle.warp_prog.specs.Twice.{names_twice, texts_twice};
 ghost use Rattle.warp_prog.specs.Uses.{startup, action_names, timer_names};
 ghost use Rattle.warp_prog.specs.View.{file_tree, reactor_tree};
+ghost use Rattle.warp_prog.specs.declared.file.CalledPart.{CalledPart};
 ghost use Rattle.warp_prog.specs.declared.file.PortName.{PortName};
 
-use crate::file::{InputPart, LinkPart, PortName, ProgramFile, Reactor};
+use crate::file::{CalledPart, InputPart, LinkPart, PortName, ProgramFile, Reactor};
+use crate::name::Name;
 use crate::named::{Named, is_same};
 
 /// How often a name or a port may stand.
@@ -21,6 +23,7 @@ pub(crate) fn names_twice(file: &ProgramFile) -> bool
 {
     reactors_repeat(&file.reactors)
         || any_names_repeat(&file.reactors)
+        || any_texts_repeat(&file.reactors)
         || targets_repeat(&file.links, &file.inputs)
         || outputs_repeat(&file.outputs)
 }
@@ -61,12 +64,73 @@ fn any_names_repeat(reactors: &[Reactor]) -> bool
     false
 }
 
+/// Whether a reactor calls a thing twice, or hides a variable twice.
+fn any_texts_repeat(reactors: &[Reactor]) -> bool
+    ensures { result ≡ list_any texts_twice (map reactor_tree reactors.now) }
+{
+    for reactor in reactors {
+        if called_repeat(&reactor.called) || hidden_repeat(&reactor.hidden) {
+            return true;
+        }
+    }
+    false
+}
+
+/// Whether one of these things is called twice.
+fn called_repeat(called: &[CalledPart]) -> bool
+    ensures { result ≡ repeats bytes_eq (map (λ (c : CalledPart). unwrap_or c.name []) called.now) }
+{
+    for part in called {
+        if room_for_called(called, called_name(part), ONCE).is_none() {
+            return true;
+        }
+    }
+    false
+}
+
+/// The name of what is called so; the empty text for the reactor itself.
+pub(crate) fn called_name(part: &CalledPart) -> &str
+    ensures { result.now ≡ unwrap_or part.now.name [] }
+{
+    match &part.name {
+        Some(name) => name.as_str(),
+        None => "",
+    }
+}
+
+/// The room that is left of so much after what people call of this name; `None` where it is not enough.
+fn room_for_called(called: &[CalledPart], name: &str, room: usize) -> Option<usize>
+    ensures { let n = how_often bytes_eq (map (λ (c : CalledPart). unwrap_or c.name []) called.now) name.now in
+        SomeIff result (n ≤ room) (room - n) }
+{
+    let mut left = room;
+    for part in called {
+        if name == called_name(part) {
+            left = left.checked_sub(1)?;
+        }
+    }
+    Some(left)
+}
+
+/// Whether one of these names stands twice.
+fn hidden_repeat(hidden: &[Name]) -> bool
+    ensures { result ≡ repeats bytes_eq hidden.now }
+{
+    for name in hidden {
+        if room_for(hidden, name.as_str(), ONCE).is_none() {
+            return true;
+        }
+    }
+    false
+}
+
 #[tactic(auto, using(crate::proofs::AllNames::any_all_names))]
 fn names_repeat(reactor: &Reactor) -> bool
     ensures { result ≡ repeats bytes_eq (all_names (reactor_tree reactor.now)) }
 {
     stands_twice(reactor, "startup")
         || any_stands_twice(reactor, &reactor.variables)
+        || any_stands_twice(reactor, &reactor.arrays)
         || port_names_repeat(reactor)
         || cause_names_repeat(reactor)
 }
@@ -114,6 +178,7 @@ fn room_in_reactor(reactor: &Reactor, name: &str) -> Option<usize>
 {
     let beside = room_beside_startup(name);
     let left = room_for(&reactor.variables, name, beside)?;
+    let left = room_for(&reactor.arrays, name, left)?;
     let rest = room_for_port_name(reactor, name, left)?;
     room_for_cause_name(reactor, name, rest)
 }

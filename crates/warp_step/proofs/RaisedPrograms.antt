@@ -6,14 +6,14 @@ use Rattle.warp_tag.specs.Limits.{longest_period, longest_stop, most_origins, mo
 use Rattle.warp_tag.specs.Moment.{Moment}
 use Rattle.warp_tag.specs.declared.form.Form.{Form}
 use Rattle.warp_tag.proofs.Forms.{microstep_kept, origins_kept, period_kept, stop_kept}
-use Rattle.warp_body.specs.Term.{Term, Constant, VariableAt, ValueAt, PresentAt, OfOne, OfTwo, Choice}
-use Rattle.warp_body.specs.Effect.{Statement, SetVariable, PutOutput, ScheduleAction, Choose, Body, Done, Then, schedules_of}
+use Rattle.warp_body.specs.Term.{Term, Constant, VariableAt, ValueAt, PresentAt, OfOne, OfTwo, Choice, ProductOver, CellAt}
+use Rattle.warp_body.specs.Effect.{Statement, SetVariable, PutOutput, ScheduleAction, Choose, SetCell, Repeat, Body, Done, Then, schedules_of}
 use Rattle.warp_body.specs.declared.place.Target.{Target}
 use Rattle.warp_body.specs.declared.place.Target.TheVariants as to
 use Rattle.warp_step.specs.Events.{IsEventOf, IsNameOf, has_input, is_declared, is_in_time, owns_input}
 use Rattle.warp_step.specs.Order.{is_admissible, keeps_before, precedes}
 use Rattle.warp_step.specs.Program.{Program, Rule, raised_to, top_of}
-use Rattle.warp_step.specs.Valid.{body_may, has, have_reactors, is_distinct, is_readable, is_valid, is_within_limits, is_writable, leads_on, link_fits, names, owns_variable, rule_fits, statement_may, term_may}
+use Rattle.warp_step.specs.Valid.{body_may, has, have_reactors, is_distinct, is_readable, is_valid, is_within_limits, is_writable, leads_on, link_fits, names, owns_cells, owns_variable, rule_fits, statement_may, term_may}
 use Rattle.warp_step.specs.declared.parts.Action.{Action}
 use Rattle.warp_step.specs.declared.parts.Link.{Link}
 use Rattle.warp_step.specs.declared.parts.Timer.{Timer}
@@ -61,6 +61,12 @@ module _ (f : Form) (P : Program) where
       let one = term_in r a in
       let two = term_in r b in
       λ i. test i && one i && two i
+  term_in r (ProductOver a b c) =
+      let one = term_in r a in
+      let two = term_in r b in
+      let three = term_in r c in
+      λ i. one i && two i && three i
+  term_in r (CellAt first count index) = ap (λ (b : Bool). owns_cells P r.reactor first count && b) (term_in r index)
 
   keeps_in : (ns : List ℕ) → keeps_before (raised_to f P) ns ≡ keeps_before P ns
   keeps_in [] = refl
@@ -103,6 +109,13 @@ module _ (f : Form) (P : Program) where
         and_from (term_may (raised_to f P) r e && body_may (raised_to f P) r first) (body_may (raised_to f P) r second)
         (and_from (term_may (raised_to f P) r e) (body_may (raised_to f P) r first) (term_in r e ∙ inner.0) (body_in r first inner.1))
         (body_in r second outer.1)
+    statement_in r (SetCell first count index e) h =
+        let one = term_in r index in
+        let two = term_in r e in
+        (λ i. owns_cells P r.reactor first count && one i && two i) ∙ h
+    statement_in r (Repeat most e body) h =
+        let both = and_parts (term_may P r e) (body_may P r body) h in
+        and_from (term_may (raised_to f P) r e) (body_may (raised_to f P) r body) (term_in r e ∙ both.0) (body_in r body both.1)
 
     body_in : (r : Rule) (b : Body) → IsTrue (body_may P r b) → IsTrue (body_may (raised_to f P) r b)
     body_in r Done h = refl

@@ -1,7 +1,7 @@
 -- The lines of a replica, piece by piece: for the calls that append them alone. No contract of a public call cites this.
 use Rattle.std.specs.Prelude.{◌≡◌, ℕ, ℤ, List, [], ◌∷◌, ◌++◌, codes, decimal, length, map}
 use Rattle.std.specs.List.{flat_map}
-use Rattle.warp_step.specs.Program.{Program}
+use Rattle.warp_step.specs.Program.{Program, told_of}
 use Rattle.warp_record.specs.declared.reply.Reply.{Reply}
 use Rattle.warp_record.specs.declared.reply.Reply.TheVariants.{Horizon, Outputs, Released, Lost, Var}
 use Rattle.warp_table.specs.Records.{Records}
@@ -30,6 +30,6 @@ count_lines a = flat_map reply_line (count_replies a)
 abbrev pub value_lines : ℕ → List ℤ → List ℕ
 value_lines count values = flat_map reply_line (map (λ value. Var count value) values)
 
--- a line for each variable
-abbrev pub variable_lines : Answers → List ℕ
-variable_lines a = value_lines a.count a.state.vars
+-- a line for each variable that is told
+abbrev pub variable_lines : Program → Answers → List ℕ
+variable_lines P a = value_lines a.count (told_of P.variables a.state.vars)
