@@ -121,6 +121,21 @@ function callBack(callback, value) {
   }
 }
 
+const PLACED = /^(.+?)((?:\[\d+\])+)$/
+
+/** The name in front of numbers in brackets, and these: `r.board[18][32]`. */
+function placed(text) {
+  const [, name = text, numbers = ""] = PLACED.exec(text) ?? []
+  return { name, numbers: (numbers.match(/\d+/g) ?? []).map(Number) }
+}
+
+/** An array by what it is called: its sides stand behind its name, if it has so many cells. */
+function arrayOf([label, first, count]) {
+  const { name, numbers } = placed(label)
+  const isSided = numbers.length > 0 && numbers.reduce((one, other) => one * other) === count
+  return isSided ? { name, first, count, sides: numbers } : { name: label, first, count, sides: [count] }
+}
+
 /** What the numbers of a program stand for, as a host tells by `names`. */
 export class Names {
   constructor({ vars = [], inputs = [], outputs = [], arrays = [], hidden = [] } = {}) {
@@ -128,19 +143,21 @@ export class Names {
     // The numbers of the variables that `vars` leaves out, and the names of those that it tells.
     this.hidden = hidden
     this.told = vars.filter((_, at) => !hidden.includes(at))
-    this.arrays = arrays.map(([name, first, count]) => ({ name, first, count }))
+    this.arrays = arrays.map(arrayOf)
     this.inputs = inputs.map(([origin, name]) => ({ origin, name }))
     this.outputs = outputs
   }
 
-  /** The number of a variable, or of a cell: `r.board[17]`. */
+  /** The number of a variable, or of a cell: `r.board[17]`, or by its sides `r.board[0][17]`. */
   var(name) {
-    const [, array, cell] = /^(.*)\[(\d+)\]$/.exec(name) ?? []
-    const found = this.arrays.find(it => it.name === array && cell < it.count)
-    return found ? found.first + Number(cell) : number("variable", name, this.vars)
+    const { name: array, numbers } = placed(name)
+    const found = this.arrays.find(it => it.name === array)
+    const sides = numbers.length === 1 ? [found?.count] : found?.sides
+    const isThere = sides?.length === numbers.length && numbers.every((it, at) => it < sides[at])
+    return isThere ? numbers.reduce((sum, it, at) => sum * sides[at] + it, 0) + found.first : number("variable", name, this.vars)
   }
 
-  /** The cells of an array: the number of the first, and how many there are. */
+  /** The cells of an array: the number of the first, how many there are, and the sides of the board that they are. */
   array(name) {
     return this.arrays[number("array", name, this.arrays.map(it => it.name))]
   }
@@ -203,7 +220,7 @@ const textOf = matching(/./)
 const [MOST_VARS, MOST_PORTS, MOST_PENDING, MOST_ARRAYS, MOST_VALUES, MOST_CELLS] = [1_024, 256, 256, 256, 66_560, 4_096]
 
 const PARTS = {
-  log: within(1e7), place: within(1e7, 1), events: within(1e7), withdrawn: within(1e7), rows: within(2 ** 20), watched: within(6),
+  log: within(1e7), place: within(1e7, 1), events: within(1e7), withdrawn: within(1e7), rows: within(2 ** 20), watched: within(7),
   origin: within(63), input: within(255), output: within(255), time: within(15_625_000), micro: within(255), index: within(2 ** 32 - 1),
   count: within(Number.MAX_SAFE_INTEGER), number: within(99, 1), value: integer, frozen: flag, broken: flag,
   version: within(99, 1), fingerprint: matching(/^[0-9a-f]{64}$/), digits: matching(/^[0-9a-f]{32}$/),
@@ -342,6 +359,7 @@ const PUSHES = {
   released: fields("index time micro output value"),
   frozen: words => ({ ...NOTHING(words), frozen: true }),
   vars: READERS.vars,
+  cells: READERS.cells,
   horizon: HORIZON,
   breach: ([log, ...origins]) => {
     const jointly = origins.at(-1) === "*"
@@ -352,10 +370,14 @@ const PUSHES = {
 }
 
 // Of these the newest push stands for those before it.
-const STATES = new Set(["vars", "horizon", "breach"])
+const STATES = new Set(["vars", "cells", "horizon", "breach"])
 // What is watched, where a push has another name.
 const SUBJECT_OF = { frozen: "released", step: "steps", skipped: "steps" }
 const SUBJECTS = [...new Set(Object.keys(PUSHES).map(it => SUBJECT_OF[it] ?? it))]
+
+// Cells by their values: Float64Array where each value is a whole number that it keeps, else BigInt64Array.
+const typed = values =>
+  values.every(it => Number.isSafeInteger(Number(it))) ? Float64Array.from(values, Number) : BigInt64Array.from(values)
 
 /** What is watched: calls back for each push, and is an async iterator over them. `stop()` ends it. */
 class Watch {
@@ -364,18 +386,28 @@ class Watch {
   #waiting = new Queue()
   #wanted = new Queue()
   #isOver = false
+  #cells = []
 
-  constructor(client, what, next, callback) {
-    /** What is watched, and the place or number that comes next; null where there is none. */
+  constructor(client, what, next, count, callback) {
+    /** What is watched, and the place or number that comes next, of cells the first; null where there is none. */
     this.what = what
     this.next = next
+    /** How many cells are watched; null where it is none. */
+    this.count = count
     this.#client = client
     this.#callback = callback
   }
 
   /** The line that begins it, or goes on with it after a lost connection. */
   get line() {
-    return this.next === null ? `watch ${this.what}` : `watch ${this.what} ${this.next}`
+    return ["watch", this.what, this.next, this.count].filter(it => it !== null).join(" ")
+  }
+
+  /** All cells that are watched, behind a push of some of them. */
+  whole({ log, first, values }) {
+    if (first === this.next && values.length >= this.#cells.length) this.#cells = values
+    else this.#cells.splice(first - this.next, values.length, ...values)
+    return { log, first: this.next, values: typed(this.#cells) }
   }
 
   /** Takes a push. */
@@ -659,7 +691,7 @@ export class Client {
     if (!watch) return
     // What is pushed may be long, and an answer waits behind it.
     this.#owed = 0
-    watch.push(value)
+    watch.push(kind === "cells" ? watch.whole(value) : value)
   }
 
   /** What a push says; where it does not read, the client closes. */
@@ -769,7 +801,7 @@ export class Client {
     const starts = Array.from({ length: Math.ceil(count / MOST_CELLS) }, (_, at) => first + at * MOST_CELLS)
     const pieces = await Promise.all(starts.map(at => this.cells(at, Math.min(MOST_CELLS, first + count - at))))
     const values = pieces.flatMap(it => it.values)
-    return values.every(it => Number.isSafeInteger(Number(it))) ? Float64Array.from(values, Number) : BigInt64Array.from(values)
+    return typed(values)
   }
 
   /** How many names of an origin have an event, how many a withdrawal, and the greatest tag of both. */
@@ -800,17 +832,20 @@ export class Client {
   }
 
   /**
-   * Watches "log" or "released" (from place 1, number 0, or `from` on), "vars", "horizon", "breach", or "steps" (what
-   * the host executes from then on). Calls back for each push, and is an async iterator over them; `stop()` ends it. A
+   * Watches "log" or "released" (from place 1, number 0, or `from` on), "vars", "cells" (`count` of them, 1 to 4,096, from
+   * number `from` on, or those of an `array` by its name, once the client is ready: each push has all of them), "horizon",
+   * "breach", or "steps" (what the host executes from then on). Calls back for each push, and is an async iterator over them; `stop()` ends it. A
    * second watch of the same takes the first's place. What cannot be watched is a RangeError. Of steps some are left out,
    * as `{ skipped }` tells, where they are not read fast enough, or one record makes more than may wait: rollbacks may be
    * among them, and fewer than `again` steps may follow one.
    */
-  watch(what, callback = null, { from = { log: 1, released: 0 }[what] ?? null } = {}) {
+  watch(what, callback = null, { from = { log: 1, released: 0 }[what] ?? null, count = null, array = null } = {}) {
     number("subject of a watch", what, SUBJECTS)
-    if (from !== null && what !== "log" && what !== "released") throw new RangeError(`a watch of ${what} has no start`)
+    if (array !== null) ({ first: from, count } = this.names.array(array))
+    if (what === "cells") from = whole("from", from, MOST_VALUES), count = whole("count", count, MOST_CELLS, 1)
+    else if (count !== null || (from !== null && what !== "log" && what !== "released")) throw new RangeError(`a watch of ${what} has no start`)
     this.#watches.get(what)?.end()
-    const watch = new Watch(this, what, from, callback)
+    const watch = new Watch(this, what, from, count, callback)
     this.#watches.set(what, watch)
     /** Resolved once the host answered that it is watched. */
     watch.started = this.#put(watch.line, watch)

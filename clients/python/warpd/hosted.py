@@ -27,7 +27,7 @@ DIGEST = re.compile(r"[0-9a-f]{32}", re.ASCII)
 # What reading a text raises that is not of its form.
 MALFORMED = (AttributeError, KeyError, IndexError, TypeError, ValueError, RecursionError)
 # What can be watched, and where it begins where no place is given.
-SUBJECTS = {"log": 1, "released": 0, "vars": None, "horizon": None, "breach": None, "steps": None}
+SUBJECTS = {"log": 1, "released": 0, "vars": None, "cells": None, "horizon": None, "breach": None, "steps": None}
 
 
 class Program(NamedTuple):
@@ -123,7 +123,7 @@ class Skipped(NamedTuple):
     count: int
 
 
-Push = Union[Logged, Released, Frozen, Variables, Horizon, Broken, Step, Rollback, Skipped]
+Push = Union[Logged, Released, Frozen, Variables, Cells, Horizon, Broken, Step, Rollback, Skipped]
 
 
 def _subject(what: str) -> str:
@@ -143,7 +143,17 @@ def _start_of(what: str, start: Optional[int]) -> Optional[int]:
     return start
 
 
-def _watch_line(what: str, place: Optional[int]) -> str:
+def _range_of(names: Names, start: Union[int, str, tuple[int, int], None]) -> str:
+    """The cells that are to be watched, as words; a ValueError where none are named."""
+    if isinstance(start, str):
+        start = names.array(start)
+    if not isinstance(start, tuple):
+        raise ValueError("the cells to watch are an array by its name, or the number of the first and how many: (0, 9)")
+    first, count = start
+    return f"{first} {count}"
+
+
+def _watch_line(what: str, place: Union[int, str, None]) -> str:
     return f"watch {what}" if place is None else f"watch {what} {place}"
 
 
@@ -210,6 +220,7 @@ PUSHES: dict[str, tuple[str, Callable[[list[str]], Push]]] = {
     "released": ("released", _released_of),
     "frozen": ("released", lambda words: Frozen(*words)),
     "vars": ("vars", lambda words: _variables_of(" ".join(words))),
+    "cells": ("cells", lambda words: _cells_of(" ".join(words))),
     "horizon": ("horizon", _horizon_of),
     "breach": ("breach", _broken_of),
     "step": ("steps", lambda words: _step_of(json_of(" ".join(words)))),
@@ -257,6 +268,15 @@ def _digest_of(text: str) -> Digest:
     return Digest(number_of(log, LOG), digits)
 
 
+def _with_cells(kept: Optional[Cells], some: Cells) -> Cells:
+    """All cells that are watched, behind a push of some of them."""
+    if kept is None or (some.first == kept.first and len(some.values) >= len(kept.values)):
+        return some
+    values = list(kept.values)
+    values[some.first - kept.first:some.first - kept.first + len(some.values)] = some.values
+    return Cells(some.log, kept.first, tuple(values))
+
+
 def _taken_from(waiting: deque[Push]) -> list[Push]:
     found = list(waiting)
     waiting.clear()
@@ -272,7 +292,8 @@ class HostClient(Client):
         """Connects, says the token, if there is one, and asks for the names. A refused token is a `Refused`."""
         self._token = token
         self._waiting: dict[str, deque[Push]] = {}
-        self._next: dict[str, Optional[int]] = {}
+        self._next: dict[str, Union[int, str, None]] = {}
+        self._cells: Optional[Cells] = None
         super().__init__(host, port, timeout)
 
     def _connect(self) -> None:
@@ -305,6 +326,8 @@ class HostClient(Client):
         if found is None:
             return
         what, push = found
+        if isinstance(push, Cells):
+            push = self._cells = _with_cells(self._cells, push)
         if what in self._waiting:
             self._waiting[what].append(push)
             if isinstance(push, (Logged, Released)):
@@ -364,14 +387,17 @@ class HostClient(Client):
         """One number for the set of the records that the host counted: hosts with the same records have the same."""
         return self._told("digest", _digest_of)
 
-    def watch(self, what: str, start: Optional[int] = None) -> Iterator[Push]:
-        """Watches "log" or "released" (from `start` on, or from the first), "vars", "horizon", "breach", or "steps" (what
+    def watch(self, what: str, start: Union[int, str, tuple[int, int], None] = None) -> Iterator[Push]:
+        """Watches "log" or "released" (from `start` on, or from the first), "vars", "cells" (`start` is the name of an array, or
+        the number of the first and how many, at most 4,096; each push has all of them), "horizon", "breach", or "steps" (what
         the host executes from then on), and gives each push. The next one is waited for without an end; `pushed` has what
         came without waiting. What is not taken waits in memory, up to `unwatch`. Watching the same again begins anew; where
         that is refused, the watch that was there goes on. A start for what has none is a ValueError."""
-        place = _start_of(what, start)
+        place = _range_of(self.names, start) if what == "cells" else _start_of(what, start)
         # Up to the answer pushes are those of the watch that was there; it goes on where this one is refused.
         self._word(_watch_line(what, place), "watching")
+        if what == "cells":
+            self._cells = None
         self._waiting[what], self._next[what] = deque(), place
         return self._pushes(what, self._waiting[what])
 

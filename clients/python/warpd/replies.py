@@ -8,6 +8,8 @@ import difflib
 import json
 import re
 from collections.abc import Callable, Sequence
+from functools import reduce
+from math import prod
 from os import PathLike
 from typing import NamedTuple, NoReturn, Optional, Union
 
@@ -24,6 +26,8 @@ MOST_ARRAYS, MOST_VALUES, MOST_CELLS = 256, 66_560, 4_096
 MOST_NAMES = {"vars": MOST_VARIABLES, "inputs": MOST_PORTS, "outputs": MOST_PORTS}
 # A board takes no more rows: of a program of version 3, and of one before.
 MOST_ROWS_OF_3, MOST_ROWS = 1_048_576, 4_096
+# A name with numbers in brackets behind it.
+PLACED, NUMERAL = re.compile(r"(.+?)((?:\[[0-9]+\])+)"), re.compile(r"[0-9]+")
 # Of what is no reply an error shows so many letters.
 SHOWN = 200
 # From where to where the numbers of replies go.
@@ -211,6 +215,18 @@ class Shape(NamedTuple):
         return f"version {'1' if self.narrow else '2+'} origins {self.origins} variables {self.variables}"
 
 
+def _placed(text: str) -> tuple[str, tuple[int, ...]]:
+    """The name in front of numbers in brackets, and these: `r.board[18][32]`."""
+    found = PLACED.fullmatch(text)
+    return (found[1], tuple(map(int, NUMERAL.findall(found[2])))) if found else (text, ())
+
+
+def _sided(label: str, count: int) -> tuple[str, tuple[int, ...]]:
+    """An array's name and its sides, which stand behind it in what it is called, if it has so many cells."""
+    name, sides = _placed(label)
+    return (name, sides) if sides and prod(sides) == count else (label, (count,))
+
+
 class Names(NamedTuple):
     """What the numbers of a program stand for, as `warpd-compile` writes it to FILE.names.json: a number is the place in
     its list. An input has the origin that owns it beside its name."""
@@ -251,17 +267,27 @@ class Names(NamedTuple):
         """The number of a variable; a number is its own. What none is called is a KeyError that tells the nearest."""
         if isinstance(name, int):
             return name
-        array, _, cell = name.removesuffix("]").partition("[")
-        for known, first, count in self.arrays:
-            if known == array and cell.isdecimal() and int(cell) < count:
-                return first + int(cell)
+        array, cell = _placed(name)
+        for label, first, count in self.arrays:
+            known, sides = _sided(label, count)
+            within = (count,) if len(cell) == 1 else sides
+            if known == array and len(cell) == len(within) and all(it < side for it, side in zip(cell, within)):
+                return first + reduce(lambda at, it: at * it[1] + it[0], zip(cell, within), 0)
         return self._place("variable", name, self.vars)
 
     def array(self, name: str) -> tuple[int, int]:
         """The number of the first cell of an array, and how many it has."""
-        names = [known for known, *_ in self.arrays]
-        _, first, count = self.arrays[self._place("array", name, names)]
+        _, first, count = self._array(name)
         return first, count
+
+    def sides(self, name: str) -> tuple[int, ...]:
+        """The sides of the board that an array is: one, where the program says none."""
+        label, _, count = self._array(name)
+        return _sided(label, count)[1]
+
+    def _array(self, name: str) -> tuple[str, int, int]:
+        names = [_sided(label, count)[0] for label, _, count in self.arrays]
+        return self.arrays[self._place("array", name, names)]
 
     def input(self, name: Union[int, str]) -> int:
         """The number of an input, in the same way."""

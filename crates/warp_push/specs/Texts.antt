@@ -1,6 +1,7 @@
 -- Texts that are pushed.
-use Rattle.std.specs.Prelude.{◌≡◌, ℕ, zero, suc, ◌==◌, ◌-◌, ◌^◌, Bool, true, false, List, [], ◌∷◌, ◌++◌, codes, decimal, drop, if◌then◌else◌, length, min, nat_le, take}
+use Rattle.std.specs.Prelude.{◌≡◌, ℕ, ℤ, zero, suc, ◌==◌, ◌+◌, ◌-◌, ◌^◌, Bool, true, false, List, [], ◌∷◌, ◌++◌, codes, decimal, drop, if◌then◌else◌, length, min, nat_le, take}
 use Rattle.std.specs.List.{after_first, count_by, position_or_len}
+use Rattle.warp_watch.specs.Lines.{cells_text}
 
 -- a text with the mark in front of each of its lines; whether its first byte begins a line
 abbrev pub marked_from : List ℕ → Bool → List ℕ → List ℕ
@@ -52,6 +53,21 @@ value_in line = from_word_end (after_first is_space line)
 -- a line that is pushed says the value that was told in this one, whatever length of the log it names
 abbrev pub SaysValue : List ℕ → List ℕ → Type 0
 SaysValue pushed told = (line : List ℕ) × (pushed ≡ pushed_mark ++ line) × (value_in line ≡ value_in told)
+
+-- a line that is pushed says some of the values that were told in this one, if this is a line of cells from that number on:
+-- values that follow each other there, at the number of the first of them
+abbrev pub SaysStretch : ℕ → List ℕ → List ℕ → Type 0
+SaysStretch first pushed told = (len : ℕ) (values : List ℤ) → told ≡ cells_text len first values
+    → (from : ℕ) × (count : ℕ) × (pushed ≡ pushed_mark ++ cells_text len (first + from) (take count (drop from values)))
+
+-- it says all values that were told of cells from this number on, or a stretch of them
+abbrev pub SaysCells : Bool → ℕ → List ℕ → List ℕ → Type 0
+SaysCells true first pushed told = SaysValue pushed told
+SaysCells false first pushed told = SaysStretch first pushed told
+
+-- how many spaces a text has
+abbrev pub spaces_in : List ℕ → ℕ
+spaces_in text = count_by is_space text
 
 -- the line that says how many lines of steps were left out
 abbrev pub skipped_text : ℕ → List ℕ

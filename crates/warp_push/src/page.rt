@@ -107,7 +107,7 @@ fn find(text: &[u8], byte: u8) -> Option<usize>
 }
 
 /// What stands behind the first of these bytes; nothing where there is none.
-fn behind_first(text: &[u8], byte: u8) -> &[u8]
+pub(crate) fn behind_first(text: &[u8], byte: u8) -> &[u8]
     ensures { result.now ≡ after_first (λ b. b == byte) text.now }
 {
     let Some(end) = find(text, byte) else {
@@ -138,7 +138,7 @@ fn find_word_end(text: &[u8]) -> Option<usize>
 }
 
 /// From the first byte on that ends a word.
-fn from_word_end(text: &[u8]) -> &[u8]
+pub(crate) fn from_word_end(text: &[u8]) -> &[u8]
     ensures { result.now ≡ from_word_end text.now }
 {
     let Some(end) = find_word_end(text) else {

@@ -173,6 +173,25 @@ impl Latest {
         self.is_asked = false;
     }
 
+    /// It was told, at this length of the log, that there is none.
+    pub(crate) fn lack(&mut self, len: u32) {
+        self.is_asked = false;
+        self.is_wanted = false;
+        self.seen = len;
+    }
+
+    /// Whether some watcher was not pushed it, or none was told yet.
+    pub(crate) fn is_wanted(&self) -> bool {
+        self.is_wanted
+    }
+
+    /// Its line as it was told; nothing before the first.
+    pub(crate) fn text(&self) -> &[u8]
+        ensures { result.now ≡ self.now.text.items }
+    {
+        &self.text
+    }
+
     /// The number of the newest value.
     pub(crate) fn version(&self) -> u64 {
         self.version

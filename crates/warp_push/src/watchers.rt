@@ -1,13 +1,14 @@
 //! Who watches what, what is asked for them, what was told, and what is pushed of it.
 
 ghost use Rattle.std.specs.Prelude.{◌≡◌, ◌≤◌, [], IfSome, None, OnErr, OnOk, false, true};
-ghost use Rattle.warp_push.specs.Pushings.{IsPage, IsPushedOf, IsValue, is_own};
+ghost use Rattle.warp_push.specs.Pushings.{IsCells, IsPage, IsPushedOf, IsValue, is_own};
 ghost use Rattle.warp_push.specs.Seats.{AsksFor, GetsSeat, GoesOnAt, Grows, IsAway, IsOwnPage, IsThere, May, NoPage, NotTold, Notes};
 ghost use Rattle.warp_push.specs.Seats.{OnlyAsks, Takes, Watches, WatchesNothing};
 ghost use Rattle.warp_push.specs.Marks as marks;
 
+use crate::groups::Groups;
 use crate::lists::Lists;
-use crate::marks::{Given, Newest, News, Unpushed, may_get_values, subject_of};
+use crate::marks::{CellRange, Given, Newest, News, Unpushed, may_get_values, subject_of};
 use crate::page::page_text;
 use crate::places::Places;
 use crate::shared::{Latest, NO_TAIL, Tail};
@@ -82,6 +83,7 @@ pub struct Watchers {
     alloc: Global,
     places: Places,
     lists: Lists,
+    groups: Groups,
     log: Tail,
     released: Tail,
     vars: Latest,
@@ -111,6 +113,7 @@ impl Watchers {
             alloc,
             places: Places::new(alloc),
             lists: Lists::new(alloc),
+            groups: Groups::new(alloc),
             log: NO_TAIL,
             released: NO_TAIL,
             vars: Latest::new(alloc, Question::Vars),
@@ -133,7 +136,17 @@ impl Watchers {
     pub fn leave(&mut self, who: ClientId)
         ensures { May who WatchesNothing self.old self.new }
     {
+        self.quit(who);
         self.places.clear(who);
+    }
+
+    /// A client is of the group of no range any more.
+    fn quit(&mut self, who: ClientId)
+        ensures { self.new ≡ self.old }
+    {
+        if let Some(range) = self.places.range(who) {
+            self.groups.quit(range, who.key);
+        }
     }
 
     /// Whether somebody may watch steps.
@@ -148,12 +161,13 @@ impl Watchers {
         match *word {
             Word::Watch(watch) => self.begin(who, watch),
             Word::Unwatch(subject) => {
-                self.places.end(who, subject);
+                self.end(who, subject);
                 true
             }
             Word::Program
             | Word::Names
             | Word::Vars
+            | Word::Cells(..)
             | Word::Releases
             | Word::Digest
             | Word::Release(_)
@@ -166,20 +180,51 @@ impl Watchers {
     fn begin(&mut self, who: ClientId, watch: Watch) -> bool
         ensures { May who (Watches (marks.marks_with watch)) self.old self.new }
     {
+        if let Subject::Cells = subject_of(watch) {
+            self.quit(who);
+        }
         let Some(unpushed) = self.places.begin(who, watch) else {
             return true;
         };
-        self.want_values(unpushed);
-        self.enlist(who, subject_of(watch)) && self.want(who.key)
+        self.want_values(who, unpushed);
+        match watch {
+            Watch::Cells(first, count) => {
+                self.groups
+                    .join(self.alloc, CellRange { first, count }, who.key)
+            }
+            _ => self.enlist(who, subject_of(watch)) && self.want(who.key),
+        }
     }
 
-    /// Some watcher was not pushed these values.
-    fn want_values(&mut self, unpushed: Unpushed)
+    /// A client watches this no longer.
+    fn end(&mut self, who: ClientId, subject: Subject)
+        ensures { May who (Watches (marks.marks_without subject)) self.old self.new }
+    {
+        if let Subject::Cells = subject {
+            self.quit(who);
+        }
+        self.places.end(who, subject);
+    }
+
+    /// A watcher was not pushed these values.
+    fn want_values(&mut self, who: ClientId, unpushed: Unpushed)
         ensures { self.new ≡ self.old }
     {
+        if unpushed.cells {
+            self.want_cells(who);
+        }
         self.vars.want(unpushed.vars);
         self.horizon.want(unpushed.horizon);
         self.breach.want(unpushed.breach);
+    }
+
+    /// A watcher of cells was not pushed the newest of them.
+    fn want_cells(&mut self, who: ClientId)
+        ensures { self.new ≡ self.old }
+    {
+        if let Some(range) = self.places.range(who) {
+            self.groups.want(range);
+        }
     }
 
     /// Puts a client into a list of watchers, once; whether there was memory.
@@ -332,10 +377,12 @@ impl Watchers {
                 return Some(question);
             }
         }
-        if !self.lists.is_any(Subject::Breach) {
-            return None;
+        if self.lists.is_any(Subject::Breach) {
+            if let Some(question) = self.breach.due(newest) {
+                return Some(question);
+            }
         }
-        self.breach.due(newest)
+        self.groups.due(newest)
     }
 
     /// What was asked could not be told: it is asked again.
@@ -349,6 +396,7 @@ impl Watchers {
             Question::Vars => self.vars.missed(),
             Question::Horizon => self.horizon.missed(),
             Question::Breaches => self.breach.missed(),
+            Question::Cells { first, count } => self.groups.missed(CellRange { first, count }),
             Question::Releases
             | Question::Release(_)
             | Question::Counts(_)
@@ -419,6 +467,7 @@ impl Watchers {
             Question::Vars => self.value(Subject::Vars, answered),
             Question::Horizon => self.value(Subject::Horizon, answered),
             Question::Breaches => self.value(Subject::Breach, answered),
+            Question::Cells { first, count } => self.cells(CellRange { first, count }, answered),
             Question::Releases
             | Question::Release(_)
             | Question::Counts(_)
@@ -497,6 +546,28 @@ impl Watchers {
         }
     }
 
+    /// The newest values of a range of variables that are pushed to those that were not pushed them. None where it has none.
+    fn cells(&mut self, range: CellRange, answered: &Answered) -> Option<Pushing>
+        ensures same { self.new ≡ self.old }
+        ensures of { IfSome result (λ one. IsCells range.first range.count answered.now one) }
+    {
+        let told = &answered.told;
+        let found = self
+            .groups
+            .news(self.alloc, range, told.len, &told.text)?;
+        let news = News::Cells {
+            range,
+            version: found.version,
+            is_whole: found.is_whole,
+        };
+        Some(Pushing::to_all(
+            Subject::Cells,
+            news,
+            told.len,
+            found.text,
+        ))
+    }
+
     /// This was pushed: who wants pages of its own behind it stands among those that may.
     pub fn pushed(&mut self, pushing: &Pushing)
         ensures { self.new ≡ self.old }
@@ -510,21 +581,42 @@ impl Watchers {
         }
     }
 
-    /// How many stand in a list of watchers.
-    pub fn count(&self, subject: Subject) -> usize {
-        self.lists.count(subject)
+    /// How many stand in the list of those to whom this may be pushed.
+    pub fn count(&self, pushing: &Pushing) -> usize {
+        match pushing.news {
+            News::Cells { range, .. } => self.groups.count(range),
+            _ => self.lists.count(pushing.subject),
+        }
     }
 
-    /// Who stands at this place of a list of watchers.
-    pub fn watcher(&self, subject: Subject, at: usize) -> Option<ClientId>
+    /// Who stands at this place of that list.
+    pub fn watcher(&self, pushing: &Pushing, at: usize) -> Option<ClientId>
         ensures { IfSome result (λ who. IsThere who (λ s. Unit {0}) self.now) }
     {
-        let key = self.lists.key(subject, at)?;
+        let key = self.key(pushing, at)?;
         self.places.who(key)
     }
 
-    /// Who stands at this place of a list watches no longer: it leaves the list.
-    pub fn drop_at(&mut self, subject: Subject, at: usize)
+    /// The key at this place of that list.
+    fn key(&self, pushing: &Pushing, at: usize) -> Option<u32> {
+        match pushing.news {
+            News::Cells { range, .. } => self.groups.key(range, at),
+            _ => self.lists.key(pushing.subject, at),
+        }
+    }
+
+    /// Who stands at this place of that list watches no longer: it leaves the list.
+    pub fn drop_at(&mut self, pushing: &Pushing, at: usize)
+        ensures { self.new ≡ self.old }
+    {
+        match pushing.news {
+            News::Cells { range, .. } => self.groups.remove(range, at),
+            _ => self.drop_listed(pushing.subject, at),
+        }
+    }
+
+    /// Who stands at this place of a list leaves it.
+    fn drop_listed(&mut self, subject: Subject, at: usize)
         ensures { self.new ≡ self.old }
     {
         let Some(key) = self.lists.remove(subject, at) else {
@@ -543,20 +635,29 @@ impl Watchers {
         if !may_get_values(unread) {
             return false;
         }
-        let newest = self.newest();
+        let newest = self.newest(who);
         let Some(lacking) = self.places.lacking(who, newest) else {
             return false;
         };
-        self.want_values(lacking);
-        lacking.vars || lacking.horizon || lacking.breach
+        self.want_values(who, lacking);
+        lacking.vars || lacking.cells || lacking.horizon || lacking.breach
     }
 
-    /// The numbers of the newest values.
-    fn newest(&self) -> Newest {
+    /// The numbers of the newest values, of cells of those that a client watches.
+    fn newest(&self, who: ClientId) -> Newest {
         Newest {
             vars: self.vars.version(),
+            cells: self.cells_version(who),
             horizon: self.horizon.version(),
             breach: self.breach.version(),
+        }
+    }
+
+    /// The number of the newest values of the cells that a client watches; 0 where it watches none.
+    fn cells_version(&self, who: ClientId) -> u64 {
+        match self.places.range(who) {
+            Some(range) => self.groups.version(range),
+            None => 0,
         }
     }
 

@@ -13,6 +13,6 @@ mod telling;
 mod words;
 
 pub use client_id::ClientId;
-pub use question::{MOST_CELLS, PAGE, Question, Told};
+pub use question::{PAGE, Question, Told};
 pub use shown::Shown;
 pub use telling::tell;

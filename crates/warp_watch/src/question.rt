@@ -3,9 +3,6 @@
 /// How many lines a page has at most, beside `frozen`.
 pub const PAGE: u32 = 256;
 
-/// How many cells a line has at most.
-pub const MOST_CELLS: u32 = 4_096;
-
 /// What the executor is asked beside lines.
 #[derive(Clone, Copy, Debug, PartialEq, Eq)]
 pub enum Question {
