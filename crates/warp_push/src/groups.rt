@@ -185,7 +185,8 @@ impl Groups {
     /// The next question that is due at this length of the log; each group has its turn.
     pub(crate) fn due(&mut self, newest: u32) -> Option<Question> {
         let next = self.next;
-        if let Some(question) = self.due_within(next, self.all.len(), newest) {
+        let len = self.all.len();
+        if let Some(question) = self.due_within(next, len, newest) {
             return Some(question);
         }
         self.due_within(0, next, newest)
