@@ -6,7 +6,7 @@ ghost use Rattle.warp_push.specs.Seats.{AsksFor, GetsSeat, GoesOnAt, Grows, IsAw
 ghost use Rattle.warp_push.specs.Seats.{OnlyAsks, Takes, Watches, WatchesNothing};
 ghost use Rattle.warp_push.specs.Marks as marks;
 
-use crate::groups::Groups;
+use crate::groups::{CellNews, Groups};
 use crate::lists::Lists;
 use crate::marks::{CellRange, Given, Newest, News, Unpushed, may_get_values, subject_of};
 use crate::page::page_text;
@@ -552,20 +552,19 @@ impl Watchers {
         ensures of { IfSome result (λ one. IsCells range.first range.count answered.now one) }
     {
         let told = &answered.told;
-        let found = self
+        let CellNews {
+            version,
+            is_whole,
+            text,
+        } = self
             .groups
             .news(self.alloc, range, told.len, &told.text)?;
         let news = News::Cells {
             range,
-            version: found.version,
-            is_whole: found.is_whole,
+            version,
+            is_whole,
         };
-        Some(Pushing::to_all(
-            Subject::Cells,
-            news,
-            told.len,
-            found.text,
-        ))
+        Some(Pushing::to_all(Subject::Cells, news, told.len, text))
     }
 
     /// This was pushed: who wants pages of its own behind it stands among those that may.
