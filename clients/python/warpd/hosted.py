@@ -345,7 +345,7 @@ class HostClient(Client):
 
     def _told(self, line: str, meaning: Callable[[str], Answer]) -> Answer:
         """What the reply to one line means behind its first word; the client is closed where it means nothing."""
-        text = self._word(line, line)
+        text = self._word(line, line.partition(" ")[0])
         try:
             return meaning(text.partition(" ")[2])
         except MALFORMED:
