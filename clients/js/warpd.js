@@ -261,7 +261,7 @@ function recordOf([kind, ...words]) {
 }
 
 /** What a JSON text stands for, in which each number is the text that spells it: a value may have more digits than a number keeps. */
-const jsonOf = text => JSON.parse(text.replace(/([:,[])(-?\d[\d.eE+-]*)/g, '$1"$2"'))
+const jsonOf = text => JSON.parse(text.replace(/"(?:[^"\\]|\\.)*"|-?\d[\d.eE+-]*/g, it => (it[0] === '"' ? it : `"${it}"`)))
 
 function namesOf(text) {
   const { vars, inputs, outputs, arrays = [], hidden = [] } = jsonOf(text)

@@ -5,7 +5,7 @@ use http::HeaderValue;
 /// What the page may do in a browser: its own style and script alone, told by their SHA-256, and connect to its host.
 const POLICY: &str = "\
 default-src 'none'; \
-script-src 'sha256-Rz9eAGxwS5Yab/FfhsTFfEyuf0JttxeZfIVAvv8rahg='; \
+script-src 'sha256-Ab+IEyx2HAP/ZxRdcfYkxKCOBSLYQASjeCmdOvx4n2A='; \
 style-src 'sha256-w6wrpSjQQo2ITNrYMfX6Z7+uynafgFVJ8u9XhCCqJFo='; \
 connect-src 'self'; \
 img-src data:; \
@@ -288,7 +288,7 @@ if(kind==="announce"&&words[0]==="*")return{kind,origin:null,...ALL(words.slice(
 if(!Object.hasOwn(RECORDS,kind))throw new SyntaxError("no record")
 return{kind,...RECORDS[kind](words)}
 }
-const jsonOf = text => JSON.parse(text.replace(/([:,[])(-?\d[\d.eE+-]*)/g, '$1"$2"'))
+const jsonOf = text => JSON.parse(text.replace(/"(?:[^"\\]|\\.)*"|-?\d[\d.eE+-]*/g, it => (it[0] === '"' ? it : `"${it}"`)))
 function namesOf(text){
 const{vars,inputs,outputs,arrays=[],hidden=[]}=jsonOf(text)
 const [numberOf,countOf]=[within(MOST_VALUES),within(2 ** 16,1)]
