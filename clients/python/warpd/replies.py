@@ -255,6 +255,7 @@ class Names(NamedTuple):
         except (KeyError, TypeError, ValueError, RecursionError):
             raise ValueError(f"no names: {cut(text)}") from None
         are_lists = all(isinstance(told[key], list) and len(told[key]) <= most for key, most in MOST_NAMES.items())
+        are_lists = are_lists and all(isinstance(told.get(key, []), list) for key in ("arrays", "hidden"))
         names = (*made.vars, *made.outputs, *(name for _, name in made.inputs), *(name for name, *_ in made.arrays))
         numbers = (*made.hidden, *(it for _, *cells in made.arrays for it in cells))
         are_origins = all(type(origin) is int and 0 <= origin < MOST_ORIGINS for origin, _ in made.inputs)
