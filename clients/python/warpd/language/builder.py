@@ -72,10 +72,16 @@ class Builder(TestBuilder):
     def mode(self, initial, word, name, *members):
         return tree.Mode(name, initial is not None, tuple(it for it in members if it))
 
-    def state(self, reset, name, type, value):
-        return tree.State(name, type, value, reset is not None)
+    def state(self, hidden, reset, name, type, value):
+        return tree.State(name, type, value, reset is not None, hidden is not None)
+
+    def called(self, _word, text, member):
+        return dataclasses.replace(member, called=text.text[1:-1])
 
     def ports(self, attribute, origin, kind, width, places, type):
+        if isinstance(type, tree.Sized) and width is None and len(type.sides) == 1:
+            # An array on a port is a group of ports.
+            (width,), type = type.sides, tree.Name(type.text, type.at)
         return tree.Ports(origin, kind.kind == "INPUT", places, type, (attribute or kind).at, width)
 
     def action(self, name, arguments, type):
@@ -106,8 +112,12 @@ class Builder(TestBuilder):
     def broadcast(self, places, _plus):
         return places, True
 
-    def place(self, first, first_index, second, index):
-        return tree.Place(first, second, first_index, index) if second else tree.Place(None, first, None, first_index)
+    def place(self, first, first_indices, second, indices):
+        one, *ones = first_indices or (None,)
+        two, *twos = indices or (None,)
+        if second:
+            return tree.Place(first, second, one, two, owner_more=tuple(ones), more=tuple(twos))
+        return tree.Place(None, first, None, one, more=tuple(ones))
 
     def interleaved(self, place):
         return dataclasses.replace(place, is_interleaved=True)
@@ -118,7 +128,7 @@ class Builder(TestBuilder):
     def list_of(self, *parts):
         return parts
 
-    places = arguments = body = extends = list_of
+    places = arguments = body = extends = indices = list_of
 
     def index(self, value):
         return value
@@ -130,12 +140,18 @@ class Builder(TestBuilder):
         *reactors, path = parts
         return tree.Import(tuple(reactors), path.text[1:-1], path.at)
 
-    def target_(self, first, first_index, second, index):
-        place = self.place(first, first_index, second, index)
+    def target_(self, first, first_indices, second, indices):
+        place = self.place(first, first_indices, second, indices)
         return place.name if place.is_plain else place
 
-    def type(self, name):
-        return name
+    def type(self, name, *sides):
+        return tree.Sized(name.text, name.at, sides) if sides else name
+
+    def side(self, value):
+        return value
+
+    def list(self, word, *parts):
+        return tree.List(tuple(it for it in parts if it), word.at)
 
     def let(self, name, type, value):
         return tree.Let(name, type, value)
@@ -152,8 +168,11 @@ class Builder(TestBuilder):
     def turn_of_c(self, type, name, value):
         return tree.Let(name, type, value)
 
-    def loop(self, word, first, test, step, body):
-        return tree.Loop(first, test, step, self._statements(body), word.at)
+    def loop(self, word, first, test, step, _most, most, body):
+        return tree.Loop(first, test, step, self._statements(body), word.at, most)
+
+    def while_loop(self, word, test, _most, most, body):
+        return tree.While(test, most, self._statements(body), word.at)
 
     def leave(self, word, value=None):
         return tree.Leave(word.text, value, word.at)
@@ -190,8 +209,8 @@ class Builder(TestBuilder):
     def truth(self, token):
         return tree.Number("1" if token.text == "true" else "0", token.at)
 
-    def reference(self, first, first_index, second, index):
-        place = self.place(first, first_index, second, index)
+    def reference(self, first, first_indices, second, indices):
+        place = self.place(first, first_indices, second, indices)
         return tree.Reference(first.text, first.at) if place.is_plain else tree.Member(place, place.at)
 
     def call(self, name, parts):
