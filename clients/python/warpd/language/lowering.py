@@ -108,7 +108,7 @@ class Maker:
     def cell(self, cells: Cells, indices: Sequence[Value], at: At) -> Value:
         """The value of a cell; 0 where there is none."""
         place = self.place(cells, indices, at)
-        if place == -1 and cells.sides[1:]:
+        if place == -1 and indices[1:]:
             return 0
         if cells.values is None:
             return ["at", cells.name, place]
@@ -118,8 +118,9 @@ class Maker:
         return ["at", cells.name, place]
 
     def place(self, cells: Cells, indices: Sequence[Value], at: At) -> Value:
-        """The number of a cell, from 0; outside of the array where an index is outside of its side."""
-        if len(cells.sides) == 1:
+        """The number of a cell, from 0; outside of the array where an index is outside of its side. One index alone is this
+        number."""
+        if len(indices) == 1:
             return indices[0]
         (lines, width), (line, column) = cells.sides, indices
         if isinstance(column, int) and not 0 <= column < width:

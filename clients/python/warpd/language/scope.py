@@ -163,7 +163,8 @@ class Scope:
         if not isinstance(type, Array):
             self.no_array(place, place.at)
             return INT
-        if len(indices) != len(type.sides):
+        # One index alone counts the cells, line by line.
+        if len(indices) not in (1, len(type.sides)):
             name = (place.owner or place.name).text
             hint = f"write `{name}{'[0]' * len(type.sides)}`"
             self.report.error(place.at, f"`{name}` has {count_of(len(type.sides), 'side')}: {len(indices)} in brackets here", hint)

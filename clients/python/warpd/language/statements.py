@@ -9,7 +9,6 @@ variable of the compiler's own says that it was reached."""
 from __future__ import annotations
 
 from collections.abc import Callable, Mapping, Sequence
-from dataclasses import replace
 from itertools import count, product
 from typing import NamedTuple, Optional, Union
 
@@ -285,7 +284,7 @@ class Body(Maker):
         counter = Cell(at, (0, cells.count - 1))
         self._step("set", counter, 0, at)
         if isinstance(value, Cells):
-            value = self.cell(replace(value, sides=(value.count,)), [counter], at)
+            value = self.cell(value, [counter], at)
         turn = [Step("setat", cells.name, value, at, 0, counter), Step("set", counter, ["+", counter, 1], at)]
         self.out.append(Repeat(cells.count, ["<", counter, cells.count], turn, at))
 
