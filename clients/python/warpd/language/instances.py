@@ -2,15 +2,16 @@
 
 from __future__ import annotations
 
-from collections import Counter
+from collections import ChainMap, Counter
 from collections.abc import Collection, Mapping
+from dataclasses import replace
 from typing import Optional, Union
 
 from . import tree
 from .arrays import MOST_ARRAYS, MOST_CELLS
 from .faults import Report, listed
-from .model import Instance, Program, ranged
-from .scope import count_of
+from .model import Instance, Program, joined, ranged
+from .scope import Kind, count_of, is_name
 from .statements import MOST_TURNS, Body, TooMany
 from .tree import At
 from .types import INT, Array, Struct, Type
@@ -43,10 +44,12 @@ class Writer:
         # The arrays of its state, and the constant ones whose cells are asked for by an index that is worked out.
         self.cells: dict[str, Cells] = {}
         self.asked: dict[str, Cells] = {}
+        self.constants: dict[str, Union[int, Cells]] = {}
 
     def frame(self) -> None:
         """Writes all but the bodies."""
         it, every = self.it, self.it.of.tree.every
+        self.constants = self._constants()
         states = [start for each in every(tree.State) for start in self._starts(each)]
         lists = {
             "vars": [start for start in states if len(start) == 2],
@@ -94,9 +97,23 @@ class Writer:
     def _array(self, name: str, type: Array, start: Optional[tree.Expression], given: Union[int, tuple] = 0) -> list:
         """An array as the program file has it. `given` is what each begins with where no start stands."""
         it = self.program.started(start, type, self.it.constants, self.it.of.scope, self.it.of.scope.places[name])
-        self.cells[name] = Cells(name, it.sides)
+        self.cells[name] = cells = Cells(name, it.sides)
         values = given if start is None else it.values
-        return [name, self.cells[name].count, values if isinstance(values, int) else [*values]]
+        if isinstance(values, tuple) and start is None:
+            # Of an array in each struct of an array: in each the same.
+            each = it.sides[-1]
+            values = (values + (0,) * (each - len(values))) * (cells.count // each) if it.sides[1:] else values
+        return [name, cells.count, values if isinstance(values, int) else [*values]]
+
+    def _constants(self) -> dict[str, Union[int, Cells]]:
+        """The constants of the instance, arrays with names that a program file takes and the reactor has not."""
+        found, taken = dict(self.it.constants), ChainMap({}, self.it.of.scope.kinds)
+        for name, value in found.items():
+            if isinstance(value, Cells):
+                flat = name if is_name(name) else joined([name.lstrip("_") or "array"], taken)
+                taken[flat] = Kind.CONSTANT
+                found[name] = replace(value, name=flat)
+        return found
 
     def _constant(self, it: Optional[tree.Expression], wanted: Type = INT) -> int:
         return self.program.lowered(it, self.it.constants, self.it.of.scope, wanted) if it else 0
@@ -130,7 +147,7 @@ class Writer:
         fields = scope.fields
         if self.cells:
             fields = {name: {field: self.cells.get(it, it) for field, it in its.items()} for name, its in fields.items()}
-        names = {**self.it.constants, **fields, **ports, **self.cells}
+        names = {**self.constants, **fields, **ports, **self.cells}
         outputs = {ports[name] for name in of.names(False)}
         body = Body(
             names, scope.types, self.program.unit or 1, scope.named, scope.routines, outputs, self.program.bodies,

@@ -180,7 +180,7 @@ def _foreign(words: Sequence[Word], number: int, table: dict) -> Optional[tuple]
     if words[start].kind == "STATE":
         before = words[number - 1]
         if "[" in (words[number].text, before.text):
-            return (words[number] if words[number].text == "[" else before), refused.ARRAYS
+            return (words[number] if words[number].text == "[" else before), refused.SIDES
         if before.text == "(" or words[number].text == "(":
             last = words[number + (words[number].text == "(")]
             return (before if before.text == "(" else words[number]), ("a start stands behind `=`", f"write `= {last}`")

@@ -446,7 +446,7 @@ class Scope:
         if name in refused.CALLS:
             text, hint = refused.CALLS[name]
             part = it.parts[0].text if it.parts and isinstance(it.parts[0], tree.Number) else "5"
-            self.report.error(it.name.at, text, hint.format(part))
+            self.report.error(it.name.at, text.format(name), hint.format(part))
             return
         near = nearest(name, [*FUNCTIONS, *self.routines]) or f"there are {listed(f'`{each}`' for each in FUNCTIONS)}"
         self.report.error(it.name.at, f"no function `{name}`", near)

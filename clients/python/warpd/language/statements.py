@@ -351,6 +351,11 @@ class Body(Maker):
         """The numbers of the turns of a loop. What asks for them counts as a part for each, since nothing of it stays."""
         name, numbers, left = it.first.name.text, [], self.left
         self.types[name], self.names[name] = INT, self.value(it.first.value)
+        if self.is_later and (found := self._range(it, name)) is not None:
+            if len(found) > MOST_COUNTED:
+                raise TooMany(it.at)
+            self.turns, self.left = self.turns + len(found), left - len(found)
+            return [*found]
         old = tree.Reference(name, it.at)
         step = tree.Binary(it.step.operator, old, it.step.value, it.at) if it.step.operator else it.step.value
         while self.value(it.test):
@@ -361,6 +366,23 @@ class Body(Maker):
             self.names[name] = self.value(step)
         self.left = left - len(numbers)
         return numbers
+
+    def _range(self, it: tree.Loop, name: str) -> Optional[range]:
+        """The numbers of a loop that counts by a constant to another one; None of any other loop."""
+        match it.test:
+            case tree.Binary(("<" | "<=" | ">" | ">=") as sign, tree.Reference(counter), end) if counter == name:
+                parts = (end, it.step.value)
+            case _:
+                return None
+        if it.step.operator not in ("+", "-") or any(each.name == name for part in parts for each in references(part)):
+            return None
+        end, by = map(self.value, parts)
+        by, is_up = -by if it.step.operator == "-" else by, sign in ("<", "<=")
+        end += (sign == "<=") - (sign == ">=")
+        first = self.names[name]
+        if (by > 0) == is_up and by:
+            return range(first, end, by)
+        return range(0) if (first >= end if is_up else first <= end) else range(MOST_COUNTED + 1)
 
     def _loop(self, it: tree.Loop) -> Left:
         if it.most:
