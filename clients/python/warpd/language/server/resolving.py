@@ -16,7 +16,7 @@ WIDTH, TESTS = "_width", ".test.lf"
 KNOWN = {
     "value": {
         "startup", "shutdown", "reset", "bank_index", "min", "max", "abs", "clamp", "present", "floor", "round",
-        "fixed", "put", "schedule", "request_stop", "set_mode", "among",
+        "fixed", "put", "schedule", "request_stop", "set_mode", "among", "mix", "muldiv", "lf",
     },
     "type": {"int", "bool", "time", "fixed", "int64_t", "void"},
     "property": {"stop", "timeout", "unit", "origins", "version", "microsteps_at_stop"},
