@@ -151,7 +151,7 @@ class Writer:
         outputs = {ports[name] for name in of.names(False)}
         body = Body(
             names, scope.types, self.program.unit or 1, scope.named, scope.routines, outputs, self.program.bodies,
-            self.program.is_later)
+            self.report, self.program.is_later)
         body.asked = self.asked
         statements = []
         try:

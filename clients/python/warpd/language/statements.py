@@ -13,6 +13,8 @@ from itertools import count, product
 from typing import NamedTuple, Optional, Union
 
 from . import tree
+from .arrays import started
+from .faults import Report
 from .keeping import Fork, Keep, Keeper, Repeat, Step
 from .lowering import Made, Maker, binary, converted
 from .routines import Routine, calls, every, references
@@ -83,7 +85,7 @@ class Body(Maker):
 
     def __init__(
         self, names: Mapping[str, Made], types: Mapping[str, Type], unit: int, named: Mapping[str, Type],
-        routines: Mapping[str, Routine], outputs: set[str], parts: Parts, is_later: bool = False,
+        routines: Mapping[str, Routine], outputs: set[str], parts: Parts, report: Report, is_later: bool = False,
     ):
         """`parts` are left for all bodies of the program together; `is_later` says that it has version 4."""
         super().__init__(dict(names), dict(types), unit, named)
@@ -94,6 +96,7 @@ class Body(Maker):
         # Whether nothing may be kept at this place, since it is worked out again and again.
         self.is_asked = False
         self.sizes: dict[int, tuple[object, int]] = {}
+        self.report = report
         self.left, self.parts = parts.left, parts
         self.base = names, types
         self.routines, self.outputs = routines, outputs
@@ -242,6 +245,8 @@ class Body(Maker):
 
     def _assign(self, it: tree.Assign) -> None:
         target, type = self._target(it.name)
+        if isinstance(it.value, tree.List):
+            return self._begin(target, type, it.value)
         if isinstance(type, Array):
             made_ = self.value(it.value, type.of)
             for name in target if isinstance(target, dict) else [None]:
@@ -262,6 +267,14 @@ class Body(Maker):
                 self._set(to, each, value.at)
         else:
             self._set(target, made_, value.at)
+
+    def _begin(self, cells: Cells, type: Array, it: tree.List) -> None:
+        """Gives an array the values of a list again: the reset of a mode does so."""
+        values = started(it, type, self.value, {}, self.report, it.at).values
+        self._fill(cells, 0, it.at)
+        for place, value in enumerate(values):
+            if value:
+                self._set(Slot(cells.name, place), value, it.at)
 
     def _target(self, it: Union[tree.Name, tree.Place]) -> tuple[Target, Type]:
         """What is assigned, and its type. Which cell of an array it is is worked out here, and once."""
