@@ -8,6 +8,8 @@ from . import tree
 from .lexing import Word
 from .testing.building import TestBuilder
 
+# What needs version 4 where it is not worked out when the text is compiled: operators, and functions.
+BITS, WHOLE = {"&", "|", "^", "<<", ">>"}, {"mix", "muldiv"}
 UNITS = {
     "n": 1, "us": 10**3, "ms": 10**6, "s": 10**9, "mi": 60 * 10**9, "h": 3600 * 10**9, "d": 86_400 * 10**9,
     "w": 604_800 * 10**9,
@@ -22,7 +24,10 @@ def nanoseconds(text: str) -> int:
 
 
 class Builder(TestBuilder):
-    """Makes the parts of the tree, from the inside out."""
+    """Makes the parts of the tree, from the inside out. `may_need_later` says that something was made that only version 4
+    of program files has."""
+
+    may_need_later = False
 
     def file(self, target, *parts):
         def every(*kinds):
@@ -73,9 +78,12 @@ class Builder(TestBuilder):
         return tree.Mode(name, initial is not None, tuple(it for it in members if it))
 
     def state(self, hidden, reset, name, type, value):
+        if hidden is not None:
+            self.may_need_later = True
         return tree.State(name, type, value, reset is not None, hidden is not None)
 
     def called(self, _word, text, member):
+        self.may_need_later = True
         return dataclasses.replace(member, called=text.text[1:-1])
 
     def ports(self, attribute, origin, kind, width, places, type):
@@ -145,7 +153,10 @@ class Builder(TestBuilder):
         return place.name if place.is_plain else place
 
     def type(self, name, *sides):
-        return tree.Sized(name.text, name.at, sides) if sides else name
+        if not sides:
+            return name
+        self.may_need_later = True
+        return tree.Sized(name.text, name.at, sides)
 
     def side(self, value):
         return value
@@ -157,7 +168,10 @@ class Builder(TestBuilder):
         return tree.Let(name, type, value)
 
     def assign(self, name, operator, value):
-        return tree.Assign(name, operator.text[:-1] or None, value)
+        sign = operator.text[:-1]
+        if sign in BITS:
+            self.may_need_later = True
+        return tree.Assign(name, sign or None, value)
 
     def step(self, name, word):
         return tree.Assign(name, word.text[0], tree.Number("1", word.at))
@@ -169,9 +183,11 @@ class Builder(TestBuilder):
         return tree.Let(name, type, value)
 
     def loop(self, word, first, test, step, _most, most, body):
+        self.may_need_later |= most is not None
         return tree.Loop(first, test, step, self._statements(body), word.at, most)
 
     def while_loop(self, word, test, _most, most, body):
+        self.may_need_later = True
         return tree.While(test, most, self._statements(body), word.at)
 
     def leave(self, word, value=None):
@@ -195,9 +211,13 @@ class Builder(TestBuilder):
         return tree.Choice(test, yes, no, test.at.to(no.at))
 
     def binary(self, left, operator, right):
+        if operator.text in BITS:
+            self.may_need_later = True
         return tree.Binary(operator.text, left, right, left.at.to(right.at))
 
     def unary(self, operator, part):
+        if operator.text == "~":
+            self.may_need_later = True
         return tree.Unary(operator.text, part, operator.at.to(part.at))
 
     def number(self, token):
@@ -211,7 +231,13 @@ class Builder(TestBuilder):
 
     def reference(self, first, first_indices, second, indices):
         place = self.place(first, first_indices, second, indices)
-        return tree.Reference(first.text, first.at) if place.is_plain else tree.Member(place, place.at)
+        if place.is_plain:
+            return tree.Reference(first.text, first.at)
+        if place.owner and first.text == "lf":
+            self.may_need_later = True
+        return tree.Member(place, place.at)
 
     def call(self, name, parts):
+        if name.text in WHOLE:
+            self.may_need_later = True
         return tree.Call(name, parts or (), name.at.to(parts[-1].at) if parts else name.at)

@@ -50,6 +50,6 @@ def _names(it: Instance) -> list[tuple[str, str]]:
 def _hidden(it: Instance) -> list[str]:
     """The compiler's own variables, and those that the text hides."""
     variables = [name for name, _ in it.reactor.get("vars", ())]
-    hidden = {each.name.text for each in it.of.tree.every(tree.State) if each.is_hidden}
+    hidden = {each.name.text for each in it.of.tree.every(tree.State) if each.is_hidden or each.is_own}
     fields = {flat for name in hidden for flat in it.of.scope.fields.get(name, {}).values()}
     return [name for name in variables if name in hidden | fields or name in variables[len(variables) - it.kept:]]

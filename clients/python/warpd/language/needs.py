@@ -18,15 +18,15 @@ FOR_OTHERS = {"min", "max", "abs", "muldiv"}
 Need = tuple[At, str]
 
 
-def may_need_later(file: tree.File, sources: Sources) -> bool:
+def may_need_later(sources: Sources) -> bool:
     """Whether something in a text may need version 4: of what is worked out when it is compiled, and of what nothing names,
     that is not known yet. A program of too much for version 2 tells so later."""
-    return any(True for _ in _needs_of(file, sources))
+    return any(it.may_need_later for it in sources.files)
 
 
 def tell_needs(file: tree.File, sources: Sources, program: Program, report: Report) -> None:
     """Tells what a text has that the version which it says has not."""
-    if program.is_later:
+    if program.is_later or not program.is_stated or not may_need_later(sources):
         return
     for at, what in _needs_of(file, sources):
         hint = f"write `version: {LATER}`, or leave it out"

@@ -28,7 +28,7 @@ def program_of(file: tree.File, sources: Sources, report: Report) -> Program:
     """The program of a tree. It means nothing where the report has an error. Where the text says no version, it has version
     4 where it needs it, and else version 2."""
     before = report.mark()
-    if not may_need_later(file, sources):
+    if not may_need_later(sources):
         try:
             return _program(PLAIN, file, sources, report)
         except NeedsLater:

@@ -24,7 +24,7 @@ from .values import Cell, Cells, Parts, Temp, TooLarge, Value, is_simple, made, 
 
 # So many turns all loops of a body may have together that are written out. In version 4 one that comes to more parts than
 # so many is a loop of the program file.
-MOST_TURNS, MOST_WRITTEN, MOST_COUNTED = 1_024, 512, 65_536
+MOST_TURNS, MOST_WRITTEN, MOST_COUNTED = 1_024, 256, 65_536
 # So many times the bounds of a loop are worked out that depend on the loops around it.
 MOST_WAYS = 4_096
 # What is asked before each turn is put into the loop's test where it has at most so many parts.

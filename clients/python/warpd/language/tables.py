@@ -40,6 +40,7 @@ class Grammar:
     """Reads words by a table. `builder` has a method for each rule of the grammar."""
 
     def __init__(self, table: dict, builder: object):
+        self.builder = builder
         self.kinds: dict[str, str] = table["kinds"]
         self.starts, self.states = table["starts"], table["states"]
         self.rules = [_rule(builder, *it) for it in table["rules"]]

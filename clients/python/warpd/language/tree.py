@@ -253,7 +253,7 @@ class Parameter:
 @dataclass(frozen=True)
 class State:
     """`is_reset` says that a reset of its mode gives it its start again, `called` how it is told of where that is not its
-    name, `is_hidden` that it is told to nobody who does not ask."""
+    name, `is_hidden` that it is told to nobody who does not ask, `is_own` that it is the compiler's own."""
 
     name: Name
     type: Optional[Name]
@@ -261,6 +261,7 @@ class State:
     is_reset: bool = False
     is_hidden: bool = False
     called: str = ""
+    is_own: bool = False
 
 
 @dataclass(frozen=True)
@@ -395,6 +396,8 @@ class File:
     imports: tuple[Import, ...] = ()
     # The `test` blocks, as words: the compiler passes them over.
     tests: tuple = ()
+    # Whether it has something that may need version 4 of program files.
+    may_need_later: bool = False
 
     @property
     def at(self) -> At:

@@ -60,7 +60,7 @@ class Renaming:
             raise Refused(f"`{INDEX}` means the place in a bank by its name")
         if not is_name(new):
             raise Refused(f"`{new}` is no name: a name has at most 32 letters, digits and `_`, a letter first")
-        if new in grammar().kinds or new in BUILT_IN or any(new in it for it in KNOWN.values()):
+        if grammar().kinds.get(new, "MOST") != "MOST" or new in BUILT_IN or any(new in it for it in KNOWN.values()):
             raise Refused(f"`{new}` is a word of the language")
 
     def _check(self, edits: dict[Path, list], symbol: Symbol, new: str) -> None:
