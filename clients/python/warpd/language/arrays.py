@@ -48,7 +48,7 @@ def started(
     count = prod(found)
     if count > MOST_CELLS:
         report.error(at, f"this array has {count} cells: {MOST_CELLS} are allowed")
-        return Start((1,), 0)
+        return Start((1,) * len(sides), 0)
     if not isinstance(values, int) and len(values) > count:
         report.error(it.at, f"{len(values)} values for {count} cells")
         values = values[:count]

@@ -7,9 +7,9 @@ from typing import Optional, Union
 
 from . import refused, tree
 from .faults import nearest, port_of
-from .scope import CONSTANTS, EFFECTS, FUNCTIONS, STATEMENTS, TRIGGERS, Kind, Scope
+from .scope import CONSTANTS, EFFECTS, FUNCTIONS, ON_BITS, STATEMENTS, TRIGGERS, Kind, Scope
 from .tree import At
-from .types import INT, Array, Type
+from .types import FIXED, INT, Array, Type
 
 
 # What stands for the old value where a value is changed.
@@ -284,7 +284,9 @@ class BodyCheck:
             self.reads(name, at)
         elif kind is Kind.OUTPUT:
             self.is_effect(name, at)
-        if it.operator:
+        if it.operator in ON_BITS and type == FIXED:
+            self.report.error(at, f"`{name}` is `fixed`: `{it.operator}` is of whole numbers")
+        elif it.operator:
             self.scope.of_type(tree.Binary(it.operator, ZERO, it.value, it.value.at), type, self)
         else:
             self.value(it.value, type if kind in (Kind.VARIABLE, Kind.OUTPUT) else None)

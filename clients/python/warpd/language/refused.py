@@ -41,7 +41,6 @@ BODY = {
     "and": ("`and` is not there", "write `&&`"),
     "or": ("`or` is not there", "write `||`"),
     "not": ("`not` is not there", "write `!`"),
-    ">>>": ("`>>>` is not there", "`>>` moves with the sign: `a >> 1 & 9223372036854775807` is without it"),
     "->": (_NO_CODE, "`a->value` is `a`, and `a->is_present` is `present(a)`"),
     '"': ("warpd has no texts: each value is an integer of 64 bits", ""),
 }
