@@ -138,10 +138,15 @@ def _reaction(it: Mapping) -> list[str]:
 
 def _reactor(title: str, it: Mapping) -> list[str]:
     lines = [f"reactor {title} {{"]
-    called = {each: text for each, text in it.get("called", ()) if each}
+    told = it.get("called", ())
+    called = {each: text for each, text in told if each}
     sides = {each: _sides(each, count, called) for each, count, _ in it.get("arrays", ())}
-    tells = {each: _called(text) for each, text in called.items() if not sides.get(each)}
-    hides = {each: "@hidden " for each in it.get("hidden", ())}
+    # What stands twice in the file does so in the text, which is refused too.
+    tells = {
+        name: "".join(_called(text) for each, text in told if each == name) for name in called
+        if not sides.get(name) or [each for each, _ in told].count(name) > 1
+    }
+    hides = {each: "@hidden " * it["hidden"].count(each) for each in it.get("hidden", ())}
     for each, start in it.get("vars", ()):
         lines.append(f"  {tells.get(each, '')}{hides.get(each, '')}state {name(each)}: int = {number(start)};")
     for each, count, start in it.get("arrays", ()):
