@@ -27,8 +27,10 @@ class Head:
         self._target()
         self.program.scope = Scope(self.report, self.program.unit)
         before = self.report.errors
-        self._types()
+        structs = self._types()
         self._constants()
+        for it, made in structs:
+            self._struct(it, made)
         for routine in declared(self.file.functions, self.program.scope):
             RoutineCheck(self.program.scope, routine).check()
         can_be_read = all(it.body is not None for it in self.file.functions)
@@ -97,8 +99,9 @@ class Head:
             scope.declare(it.name, Kind.CONSTANT, wanted or INT)
             constants.setdefault(it.name.text, value or 0)
 
-    def _types(self) -> None:
-        scope = self.program.scope
+    def _types(self) -> list[tuple[tree.Struct, Struct]]:
+        """Takes enums in, and the names of structs, whose fields may ask for constants; gives these."""
+        scope, structs = self.program.scope, []
         for it in self.file.types:
             known = scope.named.get(it.name.text)
             if known is not None:
@@ -107,7 +110,9 @@ class Head:
                 scope.named[it.name.text] = INT
                 self._enum(it)
             else:
-                scope.named[it.name.text] = self._struct(it)
+                scope.named[it.name.text] = made = Struct(it.name.text, {}, {})
+                structs.append((it, made))
+        return structs
 
     def _enum(self, it: tree.Enum) -> None:
         """Each name is a constant, one more than the one before it where no value stands."""
@@ -118,9 +123,8 @@ class Head:
             self.program.scope.declare(part.name, Kind.CONSTANT)
             self.program.constants.setdefault(part.name.text, value)
 
-    def _struct(self, it: tree.Struct) -> Struct:
-        fields: dict[str, Type] = {}
-        starts: dict[str, int] = {}
+    def _struct(self, it: tree.Struct, made: Struct) -> None:
+        fields, starts = made.fields, made.starts
         for field in it.fields:
             name = field.name.text
             if name in fields:
@@ -130,7 +134,6 @@ class Head:
             if field.start:
                 self.program.scope.constant(field.start, fields[name])
             starts[name] = self._start(field, fields[name]) if self.report.errors == before else 0
-        return Struct(it.name.text, fields, starts)
 
     def _start(self, field: tree.State, type: Type) -> Union[int, tuple[int, ...]]:
         """What a field begins with."""

@@ -21,6 +21,7 @@ KNOWN = {
     "type": {"int", "bool", "time", "fixed", "int64_t", "void"},
     "property": {"stop", "timeout", "unit", "origins", "version", "microsteps_at_stop"},
     "argument": {"bank_index"},
+    "member": {"time", "microstep"},
     "test": {"min", "max", "abs", "clamp", "present", "floor", "round", "fixed", "lost"},
 }
 Load = Callable[[Path], Optional[Names]]
