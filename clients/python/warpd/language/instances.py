@@ -202,7 +202,8 @@ def check_limits(program: Program, report: Report) -> None:
     for what, places in _lists(program).items():
         if len(places) > most[what]:
             program.needs_later()
-            report.error([*places][most[what]].at, f"{len(places)} {what}, {most[what]} are allowed")
+            text = f"{len(places)} {what}, {most[what]} are allowed"
+            report.error([*places][most[what]].at, text, _later_hint(program, what, len(places)))
     if program.is_later:
         _check_later(program, report)
 
@@ -269,8 +270,14 @@ def _too_many(program: Program, report: Report, what: str, each: Mapping[str, in
     for (of, number, kept), count in shares.items():
         has = f"{count_of(count, 'instance')} of {of} {'has' if count == 1 else 'have'} {number}{' each' * (count > 1)}"
         parts.append(has + f" ({kept} for what the compiler keeps)" * (kept > 0))
-    text = f"{sum(each.values())} {what}, {most} are allowed: {listed(parts)}"
-    report.error(program.instances[name].at, text)
+    total = sum(each.values())
+    text = f"{total} {what}, {most} are allowed: {listed(parts)}"
+    report.error(program.instances[name].at, text, _later_hint(program, what, total))
+
+
+def _later_hint(program: Program, what: str, count: int) -> str:
+    """What to write where version 4 takes so many."""
+    return "" if program.is_later or count > MOST_LATER[what] else f"leave `version: {program.version}` out: version 4 has {MOST_LATER[what]}"
 
 
 def _share(it: Instance, number: int, what: str) -> tuple[str, int, int]:
