@@ -10,7 +10,7 @@ from .faults import Report
 from .model import Class, Program
 from .routines import RoutineCheck
 from .scope import Kind, Scope
-from .types import INT, Struct
+from .types import INT, Array, Struct
 
 KINDS = {tree.State: Kind.VARIABLE, tree.Action: Kind.ACTION, tree.Timer: Kind.TIMER}
 
@@ -27,7 +27,7 @@ def declared(it: tree.Reactor, program: Program, report: Report, constants: Iter
     scope.kinds.update(dict.fromkeys(constants, Kind.CONSTANT))
     one = Class(it, scope)
     for parameter in it.parameters:
-        type = scope.type(parameter.type)
+        type = scope.type(parameter.type, is_array=True)
         if parameter.default:
             scope.constant(parameter.default, type)
         scope.declare(parameter.name, Kind.PARAMETER, type)
@@ -39,9 +39,10 @@ def declared(it: tree.Reactor, program: Program, report: Report, constants: Iter
     scope.kinds.setdefault("shutdown", Kind.SHUTDOWN)
     one.methods = routines.declared(it.every(tree.Function), scope)
     for name, type in [*scope.types.items()]:
-        if isinstance(type, Struct) and scope.kinds[name] is Kind.VARIABLE:
-            program.structure.take(len(type.fields), scope.places[name], "the fields of structs come to too many parts")
-            scope.group(name, type)
+        of, sides = (type.of, type.sides) if isinstance(type, Array) else (type, ())
+        if isinstance(of, Struct) and scope.kinds[name] is Kind.VARIABLE:
+            program.structure.take(len(of.fields), scope.places[name], "the fields of structs come to too many parts")
+            scope.group(name, of, sides)
     one.is_good = report.errors == before
     return one
 
@@ -64,7 +65,8 @@ def checked(one: Class, report: Report) -> Class:
 
 def _declare(scope: Scope, member: tree.Member) -> None:
     if type(member) in KINDS:
-        its = INT if isinstance(member, tree.Timer) else scope.type(member.type, not isinstance(member, tree.State))
+        is_state = isinstance(member, tree.State)
+        its = INT if isinstance(member, tree.Timer) else scope.type(member.type, not is_state, is_state)
         scope.declare(member.name, KINDS[type(member)], its)
     elif isinstance(member, tree.Ports):
         its = scope.type(member.type)

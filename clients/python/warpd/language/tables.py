@@ -40,6 +40,7 @@ class Grammar:
     """Reads words by a table. `builder` has a method for each rule of the grammar."""
 
     def __init__(self, table: dict, builder: object):
+        self.builder = builder
         self.kinds: dict[str, str] = table["kinds"]
         self.starts, self.states = table["starts"], table["states"]
         self.rules = [_rule(builder, *it) for it in table["rules"]]
@@ -133,7 +134,7 @@ def table_of(text: str) -> dict:
         name: ~rules[it] if action.name == "Reduce" else it for name, (action, it) in states[number].items()
     } for number in range(len(states))]
     kinds = {sign: it.name for it in lark.terminals for sign in SIGNS if _is_written(it.pattern, sign)}
-    kinds.update({it.pattern.value: it.name for it in lark.terminals if it.pattern and it.pattern.value.isidentifier()})
+    kinds.update({it.pattern.value: it.name for it in lark.terminals if it.pattern and it.pattern.value.lstrip("@").isidentifier()})
     return {
         "kinds": kinds, "starts": {it: [conf.start_state, conf.end_state] for it, conf in confs.items()},
         "states": rows, "rules": [_row_of(it) for it in rules],

@@ -102,11 +102,15 @@ class Layout:
             token = self.tokens[self.number(word)]
             if word.kind == "COLON" and node.rule == "expression":
                 token.is_tight_before, token.may_break = False, True
-            elif word.kind == "LPAR" and node.rule in ("atom", "if_else", "loop", "moment", "sources"):
+            elif word.kind == "LBRACE" and node.rule == "list":
+                token.is_tight_behind = True
+            elif word.kind == "RBRACE" and node.rule == "list":
+                token.is_tight_before = True
+            elif word.kind == "LPAR" and node.rule in ("atom", "if_else", "loop", "while_loop", "moment", "sources"):
                 token.is_tight_before = False
             elif word.kind == "PLUS" and node.rule == "sources":
                 token.is_tight_before = True
-            elif word.kind in ("MINUS", "NOT") and node.rule == "unary":
+            elif word.kind in ("MINUS", "NOT", "TILDE") and node.rule == "unary":
                 token.is_tight_behind = self.tokens[self.number(word) + 1].text not in ("-", "--")
             elif word.kind == "STEP" and place == 0:
                 token.is_tight_before, token.is_tight_behind = False, True
@@ -160,9 +164,9 @@ class Layout:
             self._rest_of_place(it, indent)
         elif it.is_body or it.rule == "test":
             self._block_of_word(it, indent, is_broken, is_first)
-        elif any(isinstance(each, Word) and each.kind == "LBRACE" for each in it.parts):
+        elif it.rule != "list" and any(isinstance(each, Word) and each.kind == "LBRACE" for each in it.parts):
             self._braced(it.parts, indent, is_broken, is_first)
-        elif it.rule in ("if_else", "loop"):
+        elif it.rule in ("if_else", "loop", "while_loop"):
             self._controls(it, indent, is_broken, is_first)
         else:
             for number, each in enumerate(it.parts):
@@ -238,7 +242,7 @@ class Layout:
         return isinstance(it, Node) and it.rule in ALONE
 
     def _controls(self, it: Node, indent: int, is_broken: bool, is_first: bool) -> None:
-        """Writes an `if` or a `for`. A statement of it without braces goes on, or stands on a line of its own."""
+        """Writes an `if`, a `for` or a `while`. A statement of it without braces goes on, or stands on a line of its own."""
         head = next(number for number, each in enumerate(it.parts) if isinstance(each, Word) and each.kind == "RPAR")
         for number, each in enumerate(it.parts):
             if isinstance(each, Word) and each.kind == "ELSE":
