@@ -61,7 +61,7 @@ turn_counted (suc left) each some =
 pub within_share : (count room each : ℕ) → each ≤ room / count → count * each ≤ room
 within_share count room each h =
     let whole = div-add-mod' room count in
-    let less = mul-le each (room / count) count count h (omega arith) in
+    let less = mul-le each count (room / count) count h (omega arith) in
     omega (whole, less, arith)
 
 pub share_of : (count room each : ℕ) → 0 < count → count * each ≤ room → each ≤ room / count

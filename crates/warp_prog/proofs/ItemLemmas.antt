@@ -33,14 +33,13 @@ not_four (a ∷ (b ∷ (c ∷ []))) h = refl
 not_four (a ∷ (b ∷ (c ∷ (d ∷ [])))) h = absurd (h refl)
 not_four (a ∷ (b ∷ (c ∷ (d ∷ (e ∷ vs))))) h = refl
 
-pub too_few : (vs : List Value) → length vs < 2 → term_of (array (items_view vs)) ≡ None
+pub too_few : (vs : List Value) → length vs < 1 → term_of (array (items_view vs)) ≡ None
 too_few [] h = refl
-too_few (a ∷ []) h = refl
-too_few (a ∷ (b ∷ vs)) h = absurd (omega (arith, h))
+too_few (a ∷ vs) h = absurd (omega (arith, h))
 
 pub too_many : (vs : List Value) → 5 ≤ length vs → term_of (array (items_view vs)) ≡ None
 too_many [] h = refl
-too_many (a ∷ []) h = refl
+too_many (a ∷ []) h = absurd (omega (arith, h))
 too_many (a ∷ (b ∷ [])) h = absurd (omega (arith, h))
 too_many (a ∷ (b ∷ (c ∷ []))) h = absurd (omega (arith, h))
 too_many (a ∷ (b ∷ (c ∷ (d ∷ [])))) h = absurd (omega (arith, h))

@@ -4,6 +4,7 @@ pub mod Rooms
 pub mod Depths
 pub mod ItemLemmas
 pub mod Has
+pub mod ArrayLemmas
 pub mod Stands
 pub mod OnceLemmas
 pub mod Numbers
@@ -32,3 +33,4 @@ pub mod RuleLemmas
 pub mod LimitLemmas
 pub mod CanonicalLemmas
 pub mod OwnLemmas
+pub mod WorkLemmas

@@ -37,6 +37,7 @@ room_first b r rs h = (
   record {
     reactors = (let e = h.reactors in omega arith);
     variables = (let e = h.variables in omega arith);
+    cells = (let e = h.cells in omega arith);
     ports = (let e = h.ports in omega arith);
     actions = (let e = h.actions in omega arith);
     timers = (let e = h.timers in omega arith);
@@ -44,6 +45,7 @@ room_first b r rs h = (
   record {
     reactors = (let e = h.reactors in omega arith);
     variables = (let e = h.variables in omega arith);
+    cells = (let e = h.cells in omega arith);
     ports = (let e = h.ports in omega arith);
     actions = (let e = h.actions in omega arith);
     timers = (let e = h.timers in omega arith);

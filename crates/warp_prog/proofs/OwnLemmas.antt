@@ -26,5 +26,5 @@ few_outputs P h =
     let rows = before_at_most P (P.stop + 1) in
     let stop = limits.stop in
     let rows_few : own_rows P ≤ longest_stop widest + 1 = omega (arith, rows, stop) in
-    let product = mul-le (own_rows P) (length P.outputs) (longest_stop widest + 1) most_outputs rows_few limits.outputs in
+    let product = mul-le (own_rows P) (length P.outputs) (longest_stop widest + 1) (most_outputs widest) rows_few limits.outputs in
     omega (arith, product)

@@ -39,15 +39,21 @@ most_scalars Two = 256
 most_scalars Three = 256
 most_scalars Four = 1024
 
--- how many arrays a file may have, how many cells one of them, and how many all together
-abbrev pub most_arrays : ℕ
-most_arrays = 256
+-- how many arrays a file may have, how many cells one of them, and how many all together; files before version 4 have none
+abbrev pub most_arrays : Form → ℕ
+most_arrays One = 0
+most_arrays Two = 0
+most_arrays Three = 0
+most_arrays Four = 256
 
 abbrev pub longest_array : ℕ
 longest_array = 65536
 
-abbrev pub most_cells : ℕ
-most_cells = 65536
+abbrev pub most_cells : Form → ℕ
+most_cells One = 0
+most_cells Two = 0
+most_cells Three = 0
+most_cells Four = 65536
 
 -- how often a loop may turn
 abbrev pub most_turns : ℕ
@@ -211,8 +217,8 @@ reactor_exceeds form r =
 abbrev pub totals_exceed : Form → List ReactorPart → Bool
 totals_exceed form rs =
     nat_lt (most_scalars form) (total (λ r. length r.variables) rs)
-    || nat_lt most_arrays (total (λ r. length r.arrays) rs)
-    || nat_lt most_cells (total (λ r. cells_of r.arrays) rs)
+    || nat_lt (most_arrays form) (total (λ r. length r.arrays) rs)
+    || nat_lt (most_cells form) (total (λ r. cells_of r.arrays) rs)
     || nat_lt (most_ports form) (total (λ r. length r.inputs + length r.outputs) rs)
     || nat_lt (most_actions form) (total (λ r. length r.actions) rs)
     || nat_lt (most_timers form) (total (λ r. length r.timers) rs)

@@ -6,7 +6,8 @@ use Rattle.warp_prog.specs.File.{NamedStatement, SetNamed, PutNamed, ScheduleNam
 use Rattle.warp_prog.specs.declared.file.Expression.{Expression, Number, Value, Present, Unary', Binary', If', MultiplyDivide', At', Time, Microstep}
 use Rattle.warp_prog.specs.declared.file.Statement.{Statement, fold-Statement}
 use Rattle.warp_prog.specs.declared.file.Statement.TheOpen.{Statement-F}
-use Rattle.warp_prog.specs.declared.file.ArrayStart.{ArrayStart, All, Each}
+use Rattle.warp_prog.specs.declared.file.ArrayStart.{ArrayStart}
+use Rattle.warp_prog.specs.declared.file.ArrayStart.TheVariants.{All, Each}
 use Rattle.warp_prog.specs.declared.file.Array.{Array}
 use Rattle.warp_prog.specs.declared.file.Beginning.{Beginning}
 use Rattle.warp_prog.specs.declared.file.Reaction.{Reaction}

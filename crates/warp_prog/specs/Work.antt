@@ -1,7 +1,8 @@
 -- The work of a file: how many nodes of expressions and statements one tag may walk at most. Each reaction runs once at a tag at most,
 -- so all are added up; what a loop does counts as often as it may turn.
-use Rattle.std.specs.Prelude.{◌≡◌, ℕ, ◌+◌, ◌*◌, unsigned_abs, nat_lt, nat_le, Bool, false, IsTrue, List, [], ◌∷◌}
+use Rattle.std.specs.Prelude.{◌≡◌, ℕ, ◌+◌, ◌*◌, min, unsigned_abs, nat_lt, nat_le, Bool, false, IsTrue, List, [], ◌∷◌}
 use Rattle.std.specs.List.{list_all}
+use Rattle.warp_tag.specs.Limits.{greatest_count}
 use Rattle.warp_tag.specs.declared.form.Form.{Form}
 use Rattle.warp_tag.specs.declared.form.Form.TheVariants.{One, Two, Three, Four}
 use Rattle.warp_prog.specs.File.{File, ReactorPart, ReactionPart, NamedTerm, Literal, Named, PresentNamed, OneNamed, TwoNamed, ChoiceNamed, ProductNamed, CellNamed, TimeNamed, MicrostepNamed}
@@ -67,7 +68,16 @@ work_exceeds_in Four f = nat_lt most_work (total reactor_work f.reactors)
 abbrev pub work_exceeds : File → Bool
 work_exceeds f = work_exceeds_in (file_form f) f
 
--- this is the work of the reactions of a file: all together, and the most that one is
+-- so much work as a count can show: of more, the greatest count
+abbrev pub shown : ℕ → ℕ
+shown work = min work greatest_count
+
+-- no reaction of these is more work than this
+abbrev pub are_at_most : ℕ → List ReactionPart → Bool
+are_at_most most ns = list_all (λ (n : ReactionPart). nat_le (shown (reaction_work n)) most) ns
+
+-- this is the work of the reactions of a file, as far as a count shows it: all together, and the most that one is. In a file of
+-- version 4 it is shown whole.
 pub record IsWork (f : File) (w : Work) : Type 0 where
-  pub all : w.all ≡ total reactor_work f.reactors
-  pub most : IsTrue (list_all (λ (r : ReactorPart). list_all (λ n. nat_le (reaction_work n) w.most) r.reactions) f.reactors)
+  pub all : w.all ≡ shown (total reactor_work f.reactors)
+  pub most : IsTrue (list_all (λ (r : ReactorPart). are_at_most w.most r.reactions) f.reactors)

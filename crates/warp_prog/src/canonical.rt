@@ -56,7 +56,7 @@ fn spell_file(text: &mut String, file: &ProgramFile) -> Result<(), AllocError>
 /// Adds where a file begins, with its key, if it goes on from another one.
 fn spell_begin(text: &mut String, begin: Option<&Beginning>) -> Result<(), AllocError>
     ensures { OnOk result (string_bytes text.new
-        ≡ string_bytes text.old ++ begin_part (option_map (λ b. begin_tree b.now) begin)) }
+        ≡ string_bytes text.old ++ begin_part (option_map (λ b. begin_tree b.now) begin.entry)) }
 {
     match begin {
         None => Ok(()),

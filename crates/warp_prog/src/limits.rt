@@ -3,7 +3,8 @@ ghost use Rattle.std.specs.Prelude.{◌≡◌, ◌≤◌, ◌-◌, ℕ, pos, map
 ghost use Rattle.std.specs.List.{list_any};
 ghost use Rattle.warp_tag.specs.Limits.{longest_period, longest_stop, most_origins};
 ghost use Rattle.warp_prog.specs.Limits.{form_of_version, is_outside, period_exceeds, origin_exceeds};
-ghost use Rattle.warp_prog.specs.Limits.{array_exceeds, begin_exceeds, cells_of, lists_exceed, most_scalars, starts_exceed};
+ghost use Rattle.warp_prog.specs.Limits.{array_exceeds, begin_exceeds, cells_of, lists_exceed, most_arrays, most_cells};
+ghost use Rattle.warp_prog.specs.Limits.{most_scalars, starts_exceed};
 ghost use Rattle.warp_prog.specs.Version.{first_version, last_version};
 ghost use Rattle.warp_prog.specs.Limits.{total, totals_exceed, action_exceeds, timer_exceeds, link_exceeds};
 ghost use Rattle.warp_prog.specs.Limits.{reaction_exceeds, reactor_exceeds, parts_exceed};
@@ -36,12 +37,8 @@ const THIRD_VERSION: i64 = 3;
 
 pub(crate) const LAST_VERSION: i64 = 4;
 
-/// How many arrays a program may have, how many cells one may, and how many all together.
-pub(crate) const MOST_ARRAYS: usize = 256;
-
+/// How many cells an array may have.
 pub(crate) const LONGEST_ARRAY: i64 = 65_536;
-
-pub(crate) const MOST_CELLS: usize = 65_536;
 
 /// Things of which all reactors together have a limit.
 pub(crate) enum LimitedThings {
@@ -82,14 +79,34 @@ fn most_scalars(form: Form) -> usize
     }
 }
 
+/// How many arrays a file of this form may have: one before version 4 has none.
+fn most_arrays(form: Form) -> usize
+    ensures { result ≡ most_arrays form }
+{
+    match form {
+        Form::One | Form::Two | Form::Three => 0,
+        Form::Four => 256,
+    }
+}
+
+/// How many cells its arrays may have together.
+fn most_cells(form: Form) -> usize
+    ensures { result ≡ most_cells form }
+{
+    match form {
+        Form::One | Form::Two | Form::Three => 0,
+        Form::Four => 65_536,
+    }
+}
+
 /// How many things of a kind all reactors of a file of this form may have together.
 pub(crate) fn most_of(kind: &LimitedThings, form: Form) -> usize
     ensures { result ≡ most_of kind.now form }
 {
     match kind {
         LimitedThings::Variables => most_scalars(form),
-        LimitedThings::Arrays => MOST_ARRAYS,
-        LimitedThings::Cells => MOST_CELLS,
+        LimitedThings::Arrays => most_arrays(form),
+        LimitedThings::Cells => most_cells(form),
         LimitedThings::Ports => form.most_ports() as usize,
         LimitedThings::Actions => form.most_actions() as usize,
         LimitedThings::Timers => form.most_timers() as usize,

@@ -3,6 +3,7 @@ ghost use Rattle.std.specs.Prelude.{◌≡◌, ◌<◌, ◌^◌, true, false, Ok
 ghost use Rattle.warp_step.specs.View.{program_of};
 ghost use Rattle.warp_prog.specs.Account.{IsWorked};
 ghost use Rattle.warp_prog.specs.Canonical.{IsCanonical};
+ghost use Rattle.warp_prog.specs.Exceeds.{exceeds_limits};
 ghost use Rattle.warp_prog.specs.Explain.{IsLabelled};
 ghost use Rattle.warp_prog.specs.Load.{IsFaultless, IsLoaded, IsRefused, lacks_order};
 ghost use Rattle.warp_prog.specs.Numbered.{is_first_version, numbered};
@@ -134,6 +135,7 @@ struct ReadProgram {
 fn read_program(alloc: Global, bytes: &[u8]) -> Result<ReadProgram, LoadError>
     ensures program { IfOk result (λ read. IsLoaded bytes.now read.program) }
     ensures file { IfOk result (λ read. reading_of bytes.now ≡ Ok (file_tree read.file)) }
+    ensures limits { IfOk result (λ read. exceeds_limits (file_tree read.file) ≡ false) }
     ensures err { IfErr result (IsRefused bytes.now) }
 {
     let file = reading(alloc, bytes)?;

@@ -178,8 +178,8 @@ fn room_in_reactor(reactor: &Reactor, name: &str) -> Option<usize>
 {
     let beside = room_beside_startup(name);
     let left = room_for(&reactor.variables, name, beside)?;
-    let left = room_for(&reactor.arrays, name, left)?;
-    let rest = room_for_port_name(reactor, name, left)?;
+    let behind = room_for(&reactor.arrays, name, left)?;
+    let rest = room_for_port_name(reactor, name, behind)?;
     room_for_cause_name(reactor, name, rest)
 }
 

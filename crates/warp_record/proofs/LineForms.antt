@@ -191,7 +191,7 @@ withdrawal_words a b c words (Joint tag events withdrawn) are =
 -- behind the tag of an event stand an input and a value
 pub event_operands : (f : Form) (a b c : List ℕ) (words : List (List ℕ)) (r : Record) → IsRecord f r
     → codes "event" ∷ a ∷ b ∷ c ∷ words ≡ record_words r
-    → (input : ℕ) × (value : ℤ) × (input < most_inputs) × FitsSigned w64 value × (words ≡ decimal input ∷ signed_decimal value ∷ [])
+    → (input : ℕ) × (value : ℤ) × (input < most_inputs f) × FitsSigned w64 value × (words ≡ decimal input ∷ signed_decimal value ∷ [])
 event_operands f a b c words r fits are =
     let told = event_words f (a ∷ b ∷ c ∷ words) r fits are in
     (told.2, told.3, told.4.input_fits, told.4.value_fits, ap (λ (ws : List (List ℕ)). drop 3 ws) told.5)

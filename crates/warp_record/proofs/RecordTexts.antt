@@ -2,7 +2,7 @@
 use Rattle.std.proofs.Common.{◌≡◌, ℕ, ℤ, ◌<◌, ◌^◌, Bool, true, false, ◌||◌, eqb, refl, sym, true≢false, List, [], ◌∷◌, ◌++◌, get_or, drop, codes, decimal, ap, ◌∙◌, arith}
 use Rattle.std.specs.Fmt.{signed_decimal}
 use Rattle.std.specs.List.{slice_split, join_with_byte}
-use Rattle.warp_tag.specs.Limits.{most_origins, widest}
+use Rattle.warp_tag.specs.Limits.{most_origins}
 use Rattle.warp_tag.specs.Moment.{Moment}
 use Rattle.warp_tag.proofs.Forms.{origins_widen}
 use Rattle.warp_tag.specs.declared.form.Form.{Form}

@@ -271,6 +271,18 @@ fn append_counts(out: &mut Vec<u8>, events: Count, withdrawn: Count)
     append_u32(out, withdrawn.get());
 }
 
+/// Appends the spelling of a joint announcement, for which there is room.
+fn append_joint(out: &mut Vec<u8>, tag: Tag, events: Count, withdrawn: Count)
+    requires { vec_len out.old + RECORD_ROOM ≤ vec_capacity out.old }
+    ensures items { out.new.items ≡ out.old.items ++ record_spelling (Record.Joint tag events withdrawn) }
+    ensures len { vec_len out.new ≤ vec_len out.old + RECORD_ROOM }
+    ensures capacity { vec_capacity out.new ≡ vec_capacity out.old }
+{
+    append(out, JOINTLY);
+    append_tag(out, tag);
+    append_counts(out, events, withdrawn);
+}
+
 /// Appends the record's spelling, for which there is room.
 pub(crate) fn append_record(out: &mut Vec<u8>, record: &Record)
     requires { vec_len out.old + RECORD_ROOM ≤ vec_capacity out.old }
@@ -312,11 +324,7 @@ pub(crate) fn append_record(out: &mut Vec<u8>, record: &Record)
             tag,
             events,
             withdrawn,
-        } => {
-            append(out, JOINTLY);
-            append_tag(out, tag);
-            append_counts(out, events, withdrawn);
-        }
+        } => append_joint(out, tag, events, withdrawn),
     }
 }
 

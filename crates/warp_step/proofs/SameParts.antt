@@ -3,7 +3,7 @@ use Rattle.std.proofs.Common.{◌≡◌, ℕ, Bool, not, ◌&&◌, ◌==◌, nat
 use Rattle.std.specs.List.{list_all}
 use Rattle.std.proofs.lemmas.Bool.{and_parts, and_from}
 use Rattle.warp_tag.specs.Limits.{longest_period, most_wishes}
-use Rattle.warp_body.specs.Term.{Term, Constant, VariableAt, ValueAt, PresentAt, OfOne, OfTwo, Choice, ProductOver, CellAt}
+use Rattle.warp_body.specs.Term.{Term, Constant, VariableAt, ValueAt, PresentAt, OfOne, OfTwo, Choice, ProductOver, CellAt, TimeNow, MicrostepNow}
 use Rattle.warp_body.specs.Effect.{Statement, SetVariable, PutOutput, ScheduleAction, Choose, SetCell, Repeat, Body, Done, Then, schedules_of}
 use Rattle.warp_body.specs.declared.place.Target.{Target}
 use Rattle.warp_body.specs.declared.place.Target.TheVariants as to
@@ -47,6 +47,8 @@ module _ (P : Program) (order : List ℕ) where
       let three = term_in r c in
       λ i. one i && two i && three i
   term_in r (CellAt first count index) = ap (λ (b : Bool). owns_cells P r.reactor first count && b) (term_in r index)
+  term_in r TimeNow = refl
+  term_in r MicrostepNow = refl
 
   mutual
     statement_in : (r : Rule) (s : Statement) → statement_may (in_order P order) r s ≡ statement_may P r s

@@ -7,10 +7,10 @@ use Rattle.std.proofs.lemmas.List.{get_or-map}
 use Rattle.std.proofs.lemmas.List.Folds.{list_all_at, list_all-append}
 use Rattle.std.proofs.lemmas.Option.{slice_get-get_or}
 use Rattle.warp_tag.specs.Limits.{widest, longest_stop, longest_period, last_microstep, most_origins, most_reactors, most_variables, most_ports, most_actions, most_timers, most_reactions, most_links, most_inputs, most_outputs, most_wishes}
-use Rattle.warp_tag.proofs.Forms.{stop_widens, microstep_widens, period_widens, origins_widen}
+use Rattle.warp_tag.proofs.Forms.{stop_widens, microstep_widens, period_widens, origins_widen, reactors_widen, variables_widen, ports_widen, actions_widen, timers_widen, reactions_widen, links_widen, inputs_widen, outputs_widen}
 use Rattle.warp_body.specs.Codes.{target_at, target_at-own}
 use Rattle.warp_body.specs.Presence.{is_target, target_fits, kind_of, number_of}
-use Rattle.warp_body.specs.Term.{Term, Constant, VariableAt, ValueAt, PresentAt, OfOne, OfTwo, Choice, ProductOver, CellAt, term_fits}
+use Rattle.warp_body.specs.Term.{Term, Constant, VariableAt, ValueAt, PresentAt, OfOne, OfTwo, Choice, ProductOver, CellAt, TimeNow, MicrostepNow, term_fits}
 use Rattle.warp_body.specs.Effect.{Statement, SetVariable, PutOutput, ScheduleAction, Choose, SetCell, Repeat, Body, Done, Then, schedules_of, statement_fits, body_fits}
 use Rattle.warp_body.specs.declared.place.Target.{Target}
 use Rattle.warp_body.specs.declared.place.Target.TheVariants as to
@@ -44,15 +44,18 @@ pub record Limited (P : Program) : Type 0 where
   pub top : top_of P ≤ last_microstep widest
   pub origins_some : 1 ≤ P.origins
   pub origins : P.origins ≤ most_origins widest
-  pub reactors : P.reactors ≤ most_reactors
-  pub variables : length P.variables ≤ most_variables
-  pub ports : length P.ports ≤ most_ports
-  pub actions : length P.actions ≤ most_actions
-  pub timers : length P.timers ≤ most_timers
-  pub reactions : length P.reactions ≤ most_reactions
-  pub links : length P.links ≤ most_links
-  pub inputs : length P.inputs ≤ most_inputs
-  pub outputs : length P.outputs ≤ most_outputs
+  pub reactors : P.reactors ≤ most_reactors widest
+  pub variables : length P.variables ≤ most_variables widest
+  pub ports : length P.ports ≤ most_ports widest
+  pub actions : length P.actions ≤ most_actions widest
+  pub timers : length P.timers ≤ most_timers widest
+  pub reactions : length P.reactions ≤ most_reactions widest
+  pub links : length P.links ≤ most_links widest
+  pub inputs : length P.inputs ≤ most_inputs widest
+  pub outputs : length P.outputs ≤ most_outputs widest
+
+up : (n a b : ℕ) → n ≤ a → a ≤ b → n ≤ b
+up n a b small wide = omega (small, wide, arith)
 
 limited : (P : Program) → IsTrue (is_within_limits P) → Limited P
 limited P h =
@@ -69,22 +72,20 @@ limited P h =
     let m = and_parts _ _ l.0 in
     let stop : P.stop ≤ longest_stop P.form = leb-true _ _ e.0 in
     let origins : P.origins ≤ most_origins P.form = leb-true _ _ d.1 in
-    let stops = stop_widens P.form in
-    let many = origins_widen P.form in
     record {
-      stop = omega (arith, stop, stops);
+      stop = up P.stop (longest_stop P.form) (longest_stop widest) stop (stop_widens P.form);
       top = microstep_widens P.form;
       origins_some = leb-true _ _ e.1;
-      origins = omega (arith, origins, many);
-      reactors = leb-true _ _ i.0;
-      variables = leb-true _ _ i.1;
-      ports = leb-true _ _ g.1;
-      actions = leb-true _ _ k.0;
-      timers = leb-true _ _ k.1;
-      reactions = leb-true _ _ j.1;
-      links = leb-true _ _ m.0;
-      inputs = leb-true _ _ m.1;
-      outputs = leb-true _ _ l.1;
+      origins = up P.origins (most_origins P.form) (most_origins widest) origins (origins_widen P.form);
+      reactors = up P.reactors (most_reactors P.form) (most_reactors widest) (leb-true P.reactors (most_reactors P.form) i.0) (reactors_widen P.form);
+      variables = up (length P.variables) (most_variables P.form) (most_variables widest) (leb-true (length P.variables) (most_variables P.form) i.1) (variables_widen P.form);
+      ports = up (length P.ports) (most_ports P.form) (most_ports widest) (leb-true (length P.ports) (most_ports P.form) g.1) (ports_widen P.form);
+      actions = up (length P.actions) (most_actions P.form) (most_actions widest) (leb-true (length P.actions) (most_actions P.form) k.0) (actions_widen P.form);
+      timers = up (length P.timers) (most_timers P.form) (most_timers widest) (leb-true (length P.timers) (most_timers P.form) k.1) (timers_widen P.form);
+      reactions = up (length P.reactions) (most_reactions P.form) (most_reactions widest) (leb-true (length P.reactions) (most_reactions P.form) j.1) (reactions_widen P.form);
+      links = up (length P.links) (most_links P.form) (most_links widest) (leb-true (length P.links) (most_links P.form) m.0) (links_widen P.form);
+      inputs = up (length P.inputs) (most_inputs P.form) (most_inputs widest) (leb-true (length P.inputs) (most_inputs P.form) m.1) (inputs_widen P.form);
+      outputs = up (length P.outputs) (most_outputs P.form) (most_outputs widest) (leb-true (length P.outputs) (most_outputs P.form) l.1) (outputs_widen P.form);
     }
 
 -- a valid program's limits and parts
@@ -292,6 +293,8 @@ term_in P r n (ProductOver a b c) h =
 term_in P r n (CellAt first count index) h =
     let both = and_parts (owns_cells P r.reactor first count) (term_may P r index) h in
     and_from _ _ (cells_fit P r.reactor first count both.0) (term_in P r n index both.1)
+term_in P r n TimeNow h = refl
+term_in P r n MicrostepNow h = refl
 
 mutual
   statement_in : (P : Program) (r : Rule) → Named P r → (s : Statement) → IsTrue (statement_may P r s) → IsTrue (statement_fits (program_sizes P) s)

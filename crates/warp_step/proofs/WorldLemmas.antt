@@ -4,10 +4,11 @@ use Rattle.std.specs.Prelude.{slice_index_or, slice_set, unwrap_or}
 use Rattle.std.specs.List.{list_any}
 use Rattle.std.proofs.lemmas.Bool.{cases_Bool, and_parts, and_from, eq-eqb, or_cases, or_left, or_right}
 use Rattle.std.proofs.lemmas.List.{get_or-set_other}
+use Rattle.warp_tag.specs.Moment.{Moment}
 use Rattle.warp_body.specs.Cell.{cell, with_cell}
 use Rattle.warp_body.specs.Presence.{is_target, kind_of, number_of, present_at}
 use Rattle.warp_body.specs.Effect.{Statement, SetVariable, PutOutput, ScheduleAction, Choose, SetCell, Repeat, Body, Done, Then, Effect, effect_of, effect_of_one, holds}
-use Rattle.warp_body.specs.Term.{Term, Constant, VariableAt, ValueAt, PresentAt, OfOne, OfTwo, Choice, ProductOver, CellAt, as_number, is_true, result_of_one, result_of_two, quotient_of_product, value_of}
+use Rattle.warp_body.specs.Term.{Term, Constant, VariableAt, ValueAt, PresentAt, OfOne, OfTwo, Choice, ProductOver, CellAt, TimeNow, MicrostepNow, as_number, is_true, result_of_one, result_of_two, quotient_of_product, value_of}
 use Rattle.warp_body.specs.declared.place.Target.{Target}
 use Rattle.warp_body.specs.declared.place.Target.TheVariants as to
 use Rattle.warp_body.specs.declared.stmt.Wish.{Wish}
@@ -58,10 +59,11 @@ unheeded_by S place (u ∷ ts) t none named = elim (cases_Bool (is_target place 
       ]
 ]
 
--- A change is apart from a rule: variables of the rule's reactor and what the rule names to read stay as they are, and what the
--- rule writes may be written before it or after it. Ports have these sources.
+-- A change is apart from a rule: the tag, variables of the rule's reactor and what the rule names to read stay as they are, and
+-- what the rule writes may be written before it or after it. Ports have these sources.
 pub record IsApart (P : Program) (S : List ℕ) (r : Rule) (g : World → World) : Type 0 where
   pub sources : (w : World) → w.present.sources ≡ S → (g w).present.sources ≡ S
+  pub tag : (w : World) → w.present.sources ≡ S → (g w).present.tag ≡ w.present.tag
   pub vars : (w : World) (k : ℕ) → w.present.sources ≡ S → IsTrue (owns_variable P r.reactor k)
       → slice_index_or (g w).vars k (pos 0) ≡ slice_index_or w.vars k (pos 0)
   pub reads : (w : World) (t : Target) → w.present.sources ≡ S → IsTrue (names (r.triggers ++ r.reads) t) → present_at (g w).present t ≡ present_at w.present t
@@ -110,6 +112,8 @@ module _ (P : Program) (S : List ℕ) (r : Rule) (g : World → World) (apart : 
   value_apart (CellAt first count index) may w own =
       let both = and_parts (owns_cells P r.reactor first count) (term_may P r index) may in
       ap (cell (g w).vars first count) (value_apart index both.1 w own) ∙ cell_apart first count (value_of index w.vars w.present) both.0 w own
+  value_apart TimeNow may w own = ap (λ (t : Moment). pos t.time) (apart.tag w own)
+  value_apart MicrostepNow may w own = ap (λ (t : Moment). pos t.microstep) (apart.tag w own)
 
   -- a cell that is set may be set before the change or after it
   set_apart : (b : Bool) (k : ℕ) (v : ℤ) → (b ≡ true → IsTrue (owns_variable P r.reactor k)) → (w : World) → w.present.sources ≡ S
@@ -258,6 +262,7 @@ variable_apart P S r k v foreign =
     λ j mine same. let no : true ≡ false = sym mine ∙ ap (owns_variable P r.reactor) same ∙ foreign in cc in
     record {
       sources = λ w own. own;
+      tag = λ w own. refl;
       vars = λ w j own mine. get_or-set_other w.vars k j v (pos 0) (other j mine);
       reads = λ w t own named. refl;
       sets = λ w j u own mine. ap (λ (vs : List ℤ). record { vars = vs; present = w.present }) (set_swap w.vars j k u v (other j mine));
@@ -271,6 +276,7 @@ port_apart P S r port v unwritten unread =
     λ q mine same. let no : true ≡ false = sym mine ∙ ap (λ (n : ℕ). names r.writes (to.Port n)) same ∙ unwritten in cc in
     record {
       sources = λ w own. own;
+      tag = λ w own. refl;
       vars = λ w k own mine. refl;
       reads = λ w t own named.
           other_stays (to.Port port) v w.present t
@@ -293,6 +299,7 @@ pub leaves_apart : (P : Program) (S : List ℕ) (first second : Rule) → Leaves
 leaves_apart P S first second leaves left fits =
     record {
       sources = rule_sources S second;
+      tag = λ w own. rule_stays P S second (λ u. u.present.tag) (λ u j v there his. refl) (λ u port v there his. refl) w fits own;
       vars = λ w k own mine.
           rule_stays P S second (λ u. slice_index_or u.vars k (pos 0))
           (λ u j v there his. (variable_apart P S first j v (leaves.vars j his)).vars u k there mine)

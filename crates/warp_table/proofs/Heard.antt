@@ -201,7 +201,7 @@ record EventsHeard (S : Records) (origin : ℕ) (heard : Heard) : Type 0 where
   doubled : IfSome heard.doubled (λ t. HasTwoPayloads S origin t)
   least_doubled : (tag : Moment) → HasTwoPayloads S origin tag → (t : Moment) × (heard.doubled ≡ Some t) × (is_before tag t ≡ false)
 
-IfSome-weaker : (doubled : Option Moment) (P Q : Moment → Type 0) → ((t : Moment) → P t → Q t) → IfSome doubled P → IfSome doubled Q
+pub IfSome-weaker : (doubled : Option Moment) (P Q : Moment → Type 0) → ((t : Moment) → P t → Q t) → IfSome doubled P → IfSome doubled Q
 IfSome-weaker None P Q f h = tt
 IfSome-weaker (Some t) P Q f h = f t h
 

@@ -40,13 +40,17 @@ pairs_append R (x ∷ xs) ys left right both =
     AllPairs-cons R x (xs ++ ys) (All-append (R x) xs ys (AllPairs-first R x xs left) (both x (Contains-here x xs)))
     (pairs_append R xs ys (AllPairs-tail R x xs left) right (λ y has. both y (Contains-there x xs y has)))
 
+-- the name of an origin at a tag
+abbrev name_at : ℕ → Moment → ℕ × Moment
+name_at origin tag = (origin, tag)
+
 -- tags in order are names apart
-named_apart : (origin : ℕ) (tags : List Moment) → AreAscending tags → AllPairs (λ m n. m ≢ n) (map (λ t. (origin, t)) tags)
+named_apart : (origin : ℕ) (tags : List Moment) → AreAscending tags → AllPairs (λ m n. m ≢ n) (map (name_at origin) tags)
 named_apart origin [] ascending = λ i j d lt l. absurd (omega arith)
 named_apart origin (t ∷ tags) ascending =
-    AllPairs-cons (λ (m n : ℕ × Moment). m ≢ n) (origin, t) (map (λ u. (origin, u)) tags)
-    (All-map (λ (n : ℕ × Moment). (origin, t) ≢ n) (λ u. (origin, u)) tags
-    (All-weaker (λ u. IsTrue (is_before t u)) (λ u. (origin, t) ≢ (origin, u)) (λ u b e. apart t u b (ap (λ (n : ℕ × Moment). n.1) e)) tags
+    AllPairs-cons (λ (m n : ℕ × Moment). m ≢ n) (origin, t) (map (name_at origin) tags)
+    (All-map (λ (n : ℕ × Moment). name_at origin t ≢ n) (name_at origin) tags
+    (All-weaker (λ u. IsTrue (is_before t u)) (λ u. name_at origin t ≢ name_at origin u) (λ u b e. apart t u b (ap (λ (n : ℕ × Moment). n.1) e)) tags
     (AllPairs-first (λ u v. IsTrue (is_before u v)) t tags ascending)))
     (named_apart origin tags (AllPairs-tail (λ u v. IsTrue (is_before u v)) t tags ascending))
 
@@ -62,15 +66,15 @@ module _ (kind : EventOrWithdrawal) (p : Moment → Bool) where
   -- the names of origins from one on, of those whose tags pass a test
   abbrev names_in : ℕ → List Heard → List (ℕ × Moment)
   names_in origin [] = []
-  names_in origin (h ∷ hs) = map (λ t. (origin, t)) (filter p (tags_of kind h)) ++ names_in (origin + 1) hs
+  names_in origin (h ∷ hs) = map (name_at origin) (filter p (tags_of kind h)) ++ names_in (origin + 1) hs
 
   -- they are as many as the tags
   length-names_in : (origin : ℕ) (hs : List Heard) → length (names_in origin hs) ≡ length (filter p (all_tags kind hs))
   length-names_in origin [] = refl
   length-names_in origin (h ∷ hs) =
       let own : List Moment = filter p (tags_of kind h) in
-      let left : length (map (λ t. (origin, t)) own ++ names_in (origin + 1) hs) ≡ length (map (λ t. (origin, t)) own) + length (names_in (origin + 1) hs) = length-append _ _ in
-      let mapped : length (map (λ t. (origin, t)) own) ≡ length own = length-map own (λ t. (origin, t)) in
+      let left : length (map (name_at origin) own ++ names_in (origin + 1) hs) ≡ length (map (name_at origin) own) + length (names_in (origin + 1) hs) = length-append _ _ in
+      let mapped : length (map (name_at origin) own) ≡ length own = length-map own (name_at origin) in
       let rest : length (names_in (origin + 1) hs) ≡ length (filter p (all_tags kind hs)) = length-names_in (origin + 1) hs in
       let right : length (filter p (tags_of kind h ++ all_tags kind hs)) ≡ length (own ++ filter p (all_tags kind hs)) = ap (λ (l : List Moment). length l) (filter-append p (tags_of kind h) (all_tags kind hs)) in
       let parts : length (own ++ filter p (all_tags kind hs)) ≡ length own + length (filter p (all_tags kind hs)) = length-append _ _ in
@@ -79,9 +83,9 @@ module _ (kind : EventOrWithdrawal) (p : Moment → Bool) where
   -- each is of an origin's tags
   from_names_in : (origin : ℕ) (hs : List Heard) (name : ℕ × Moment) → Contains (names_in origin hs) name → (k : ℕ) × (name.0 ≡ origin + k) × Contains (tags_of kind (heard_at hs k)) name.1 × IsTrue (p name.1)
   from_names_in origin [] name has = absurd (Contains-nil name has)
-  from_names_in origin (h ∷ hs) name has = elim (Contains-append_cases (map (λ t. (origin, t)) (filter p (tags_of kind h))) (names_in (origin + 1) hs) name has) [
+  from_names_in origin (h ∷ hs) name has = elim (Contains-append_cases (map (name_at origin) (filter p (tags_of kind h))) (names_in (origin + 1) hs) name has) [
     | inl own ↦ (
-        let from = Contains-from_map (λ t. (origin, t)) (filter p (tags_of kind h)) name own in
+        let from = Contains-from_map (name_at origin) (filter p (tags_of kind h)) name own in
         let kept = kept_passes p (tags_of kind h) from.0 from.1 in
         let first : name.0 ≡ origin = sym (ap (λ (n : ℕ × Moment). n.0) from.2) in
         let second : from.0 ≡ name.1 = ap (λ (n : ℕ × Moment). n.1) from.2 in
@@ -100,21 +104,21 @@ module _ (kind : EventOrWithdrawal) (p : Moment → Bool) where
   to_names_in origin (h ∷ hs) zero m tag is has pass =
       let first : m ≡ origin = omega (arith, is) in
       subst (λ (o : ℕ). Contains (names_in origin (h ∷ hs)) (o, tag)) (sym first)
-      (Contains-append_left (map (λ t. (origin, t)) (filter p (tags_of kind h))) (names_in (origin + 1) hs) (origin, tag)
-      (Contains-map (λ t. (origin, t)) (filter p (tags_of kind h)) tag (passes_kept p (tags_of kind h) tag has pass)))
+      (Contains-append_left (map (name_at origin) (filter p (tags_of kind h))) (names_in (origin + 1) hs) (origin, tag)
+      (Contains-map (name_at origin) (filter p (tags_of kind h)) tag (passes_kept p (tags_of kind h) tag has pass)))
   to_names_in origin (h ∷ hs) (suc k) m tag is has pass =
-      Contains-append_right (map (λ t. (origin, t)) (filter p (tags_of kind h))) (names_in (origin + 1) hs) (m, tag)
+      Contains-append_right (map (name_at origin) (filter p (tags_of kind h))) (names_in (origin + 1) hs) (m, tag)
       (to_names_in (origin + 1) hs k m tag (omega (arith, is)) has pass)
 
   -- no name stands there twice
   names_in_apart : (origin : ℕ) (hs : List Heard) → ((k : ℕ) → AreAscending (tags_of kind (heard_at hs k))) → AllPairs (λ m n. m ≢ n) (names_in origin hs)
   names_in_apart origin [] ascending = λ i j d lt l. absurd (omega arith)
   names_in_apart origin (h ∷ hs) ascending =
-      pairs_append (λ (m n : ℕ × Moment). m ≢ n) (map (λ t. (origin, t)) (filter p (tags_of kind h))) (names_in (origin + 1) hs)
+      pairs_append (λ (m n : ℕ × Moment). m ≢ n) (map (name_at origin) (filter p (tags_of kind h))) (names_in (origin + 1) hs)
       (named_apart origin (filter p (tags_of kind h)) (AllPairs-filter (λ t u. IsTrue (is_before t u)) p (tags_of kind h) (ascending 0)))
       (names_in_apart (origin + 1) hs (λ k. ascending (suc k)))
       (λ name own k d l e.
-      let mine = Contains-from_map (λ t. (origin, t)) (filter p (tags_of kind h)) name own in
+      let mine = Contains-from_map (name_at origin) (filter p (tags_of kind h)) name own in
       let first : name.0 ≡ origin = sym (ap (λ (n : ℕ × Moment). n.0) mine.2) in
       let other = from_names_in (origin + 1) hs (get_or (names_in (origin + 1) hs) k d) (Contains-get_or (names_in (origin + 1) hs) k d l) in
       let same : name.0 ≡ (get_or (names_in (origin + 1) hs) k d).0 = ap (λ (n : ℕ × Moment). n.0) e in
@@ -190,7 +194,7 @@ module _ (kind : EventOrWithdrawal) (heards : List Heard) (is : ℕ → Moment �
       omega (arith, few, same, whole)
 
 -- the name of a record, of which a joint or own announcement has none
-name_of : Record → ℕ × Moment
+abbrev name_of : Record → ℕ × Moment
 name_of (said_of.Event origin tag input value) = (origin, tag)
 name_of (said_of.Withdraw origin tag) = (origin, tag)
 name_of (said_of.Announce origin tag events withdrawn) = (0, beginning)

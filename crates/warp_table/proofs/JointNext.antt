@@ -5,8 +5,6 @@ use Rattle.std.specs.List.{All, list_any}
 use Rattle.std.specs.Set.{is_member}
 use Rattle.std.proofs.lemmas.Bool.{both_ways, cases_Bool, cases_eq, false≢true}
 use Rattle.std.proofs.lemmas.Bool.Decides.{nat_tests}
-use Rattle.std.proofs.lemmas.List.{length-append}
-use Rattle.std.proofs.lemmas.List.Elements.{filter-append}
 use Rattle.warp_tag.specs.Moment.{Moment, is_before, is_same}
 use Rattle.warp_tag.proofs.Tags.{before_trans, same_moment}
 use Rattle.warp_record.specs.declared.record.Record.{Record}
@@ -27,8 +25,9 @@ use Rattle.warp_table.specs.declared.tally.Verdict.{Verdict}
 use Rattle.warp_table.specs.inner.Heard.{Announced, AreAscending, AreHeard, Heard, IsHeard, count_before, earlier_of, heard_at, nothing_heard, with_tag}
 use Rattle.warp_table.specs.inner.Joint.{IsLeastDoubled, IsLeastOf, KeepsJoint, all_tags, counted_in, doubled_in, joint_noted, joint_with}
 use Rattle.warp_table.specs.inner.Tally.{AreKept, Counts, IsVerdict, announcement_of, beyond, counted, has_doubled, is_exceeded, place_of, tags_of, with_name, with_tally}
-use Rattle.warp_table.proofs.Heard.{IsWithOne, earlier_has, earlier_least, with_one}
+use Rattle.warp_table.proofs.Heard.{IfSome-weaker, IsWithOne, earlier_has, earlier_least, with_one}
 use Rattle.warp_table.proofs.InOrder.{Contains-from_with_tag, Contains-with_tag, ascending-with_tag, count-with_tag_before, count-with_tag_behind}
+use Rattle.warp_table.proofs.JointLeast.{count_both}
 use Rattle.warp_table.proofs.JointNames.{no_tags, none_at}
 use Rattle.warp_table.proofs.Orders.{one_order}
 use Rattle.warp_table.proofs.Sets.{in_set, same_tag}
@@ -61,7 +60,7 @@ same_tags a b first other each = one_order is_before before_apart a b first othe
 
 -- Sums over origins
 
-sum : ℕ → (ℕ → ℕ) → ℕ
+abbrev sum : ℕ → (ℕ → ℕ) → ℕ
 sum zero f = 0
 sum (suc n) f = f 0 + sum n (λ o. f (suc o))
 
@@ -103,9 +102,6 @@ module _ (kind : EventOrWithdrawal) (measure : List Moment → ℕ) (none : meas
       let step : sum n (λ o. measure (tags_of kind (heard_at new o))) ≡ sum n (λ o. measure (tags_of kind (heard_at old o))) + more =
       sum_more n k more (λ o. measure (tags_of kind (heard_at new o))) (λ o. measure (tags_of kind (heard_at old o))) (omega arith) (λ o other. ap measure (same o other)) own in
       omega (arith, first, second, step)
-
-count_both : (end : Moment) (xs ys : List Moment) → count_before end (xs ++ ys) ≡ count_before end xs + count_before end ys
-count_both end xs ys = ap (λ (l : List Moment). length l) (filter-append (λ t. is_before t end) xs ys) ∙ length-append _ _
 
 -- of two lists of what is heard the tags of a kind are the same, but that one origin has one more
 pub record HasOneMore (kind : EventOrWithdrawal) (old new : List Heard) (k : ℕ) (tag : Moment) : Type 0 where
@@ -241,10 +237,6 @@ least_in_set records heards doubled heard is = record {
 
 -- One more record of an origin
 
-if_some_weaker : (d : Option Moment) (P Q : Moment → Type 0) → ((t : Moment) → P t → Q t) → IfSome d P → IfSome d Q
-if_some_weaker None P Q each h = tt
-if_some_weaker (Some t) P Q each h = each t h
-
 module _ (records : List Record) (old new : List Heard) (said : Record) (heard : AreHeard records old) (after : AreHeard (records ++ said ∷ []) new) where
   abbrev before : Records
   before = set_of records
@@ -280,7 +272,7 @@ module _ (records : List Record) (old new : List Heard) (said : Record) (heard :
   -- where no second payload came, the least tag of two is the same
   least_stays : (d : Option Moment) → ((p : ℕ) (t : Moment) → HasTwoPayloads now p t → HasTwoPayloads before p t) → IsLeastDoubled before d → IsLeastDoubled now d
   least_stays d none is = record {
-    some = if_some_weaker d (λ t. (p : ℕ) × HasTwoPayloads before p t) (λ t. (p : ℕ) × HasTwoPayloads now p t) (λ t h. (h.0, two_stays h.0 t h.1)) is.some;
+    some = IfSome-weaker d (λ t. (p : ℕ) × HasTwoPayloads before p t) (λ t. (p : ℕ) × HasTwoPayloads now p t) (λ t h. (h.0, two_stays h.0 t h.1)) is.some;
     least = λ p t two. is.least p t (none p t two);
   }
 
@@ -288,7 +280,7 @@ module _ (records : List Record) (old new : List Heard) (said : Record) (heard :
   least_earlier : (d : Option Moment) (o : ℕ) (tag : Moment) → HasTwoPayloads now o tag → ((p : ℕ) (t : Moment) → HasTwoPayloads now p t → (t ≡ tag) ⊎ HasTwoPayloads before p t) → IsLeastDoubled before d → IsLeastDoubled now (Some (earlier_of d tag))
   least_earlier d o tag here each is = record {
     some = earlier_has d tag (λ t. (p : ℕ) × HasTwoPayloads now p t)
-        (if_some_weaker d (λ t. (p : ℕ) × HasTwoPayloads before p t) (λ t. (p : ℕ) × HasTwoPayloads now p t) (λ t h. (h.0, two_stays h.0 t h.1)) is.some) (o, here);
+        (IfSome-weaker d (λ t. (p : ℕ) × HasTwoPayloads before p t) (λ t. (p : ℕ) × HasTwoPayloads now p t) (λ t h. (h.0, two_stays h.0 t h.1)) is.some) (o, here);
     least = λ p t two. (
       earlier_of d tag,
       refl,
@@ -500,10 +492,10 @@ joint_kind (said_of.Announce o tag events withdrawn) is = cc
 joint_kind (said_of.Joint tag events withdrawn) is = refl
 
 -- with one more joint announcement, of which this is counted
-pub joint_added : (records : List Record) (heards : List Heard) (tag : Moment) (events withdrawn : ℕ) (tally : Tally) (doubled : Option Moment) (joint : JointAnnouncer) → (Contains records (said_of.Joint tag events withdrawn) → ⊥) →
+pub joint_added : (records : List Record) (heards : List Heard) (tag : Moment) (events withdrawn : ℕ) (tally : Tally) (doubled : Option Moment) (joint : JointAnnouncer) →
     AreHeard records heards → IsLeastOf heards doubled → announcement_of tally ≡ record { tag = tag; events = events; withdrawn = withdrawn } → Counts (all_tags Event heards) (all_tags Withdrawal heards) tally →
     KeepsJoint records heards joint → KeepsJoint (records ++ said_of.Joint tag events withdrawn ∷ []) heards (joint_noted tally doubled joint)
-joint_added records heards tag events withdrawn tally doubled joint lacks heard least is counts keeps =
+joint_added records heards tag events withdrawn tally doubled joint heard least is counts keeps =
     let said : Record = said_of.Joint tag events withdrawn in
     let place : ℕ = place_of tally.tag joint.announced in
     let after : AreHeard (records ++ said ∷ []) heards = all_heard_joint records heards tag events withdrawn heard in

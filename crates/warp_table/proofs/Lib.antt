@@ -33,6 +33,7 @@ pub mod LeastReach
 pub mod SomeHeard
 pub mod JointCounts
 pub mod JointNames
+pub mod JointLeast
 pub mod JointNext
 pub mod JointReach
 pub mod JointHorizons

@@ -28,11 +28,11 @@ use Rattle.warp_table.proofs.SomeHeard.{at_most, doubled_before, greatest_tag, s
 use Rattle.warp_table.proofs.Told.{known_by_set}
 
 -- what is told of a name has an event, or a withdrawal
-event_test : Option Entry → Bool
+abbrev event_test : Option Entry → Bool
 event_test None = false
 event_test (Some e) = is_some e.event
 
-withdrawal_test : Option Entry → Bool
+abbrev withdrawal_test : Option Entry → Bool
 withdrawal_test None = false
 withdrawal_test (Some e) = e.withdrawn
 
@@ -84,7 +84,7 @@ module _ (records : List Record) where
       (λ n h. (names_each records n.0 n.1).1 (Withdraw n.0 n.1, h, (refl, refl)))
 
 -- the joint announcements of a list
-joints : List Record → List Announced
+abbrev joints : List Record → List Announced
 joints [] = []
 joints (Event o t input value ∷ records) = joints records
 joints (Withdraw o t ∷ records) = joints records
@@ -128,7 +128,7 @@ in_joints (Joint t events withdrawn ∷ records) a has = elim (Contains-cases (J
 
 -- In every set of a list joint announcements reach to some tag
 
-is_reached : List Record → Announced → Bool
+abbrev is_reached : List Record → Announced → Bool
 is_reached records a = nat_le a.events (number records (has_event records) a.tag) && nat_le a.withdrawn (number records (has_withdrawal records) a.tag)
 
 reached_decides : (records : List Record) (a : Announced) → Decides (is_reached records a) (IsReachedJointly (set_of records) a.tag a.events a.withdrawn)
@@ -194,7 +194,7 @@ more_than : (m n : ℕ) → Decides (nat_lt m n) (m + 1 ≤ n)
 more_than m n = Decides-like (nat_lt m n) (λ h. omega (arith, h)) (λ h. omega (arith, h)) (Decides-ltb m n)
 
 -- an announcement of these is broken
-Breaks : List Record → Announced → Type 0
+abbrev Breaks : List Record → Announced → Type 0
 Breaks records a = AtLeastNames (a.events + 1) (all_events_below (set_of records) a.tag)
     ⊎ (AtLeastNames (a.withdrawn + 1) (all_withdrawals_below (set_of records) a.tag)
     ⊎ ((origin : ℕ) × (tag : Moment) × IsTrue (is_before tag a.tag) × HasTwoPayloads (set_of records) origin tag))

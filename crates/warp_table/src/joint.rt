@@ -6,8 +6,9 @@
 ghost use Rattle.std.specs.Prelude.{◌≡◌, ◌+◌, ◌<◌, ◌^◌, [], All, IfOk, IsTrue, OnErr, OnOk, false, length};
 ghost use Rattle.warp_table.specs.Announced.{beginning};
 ghost use Rattle.warp_table.specs.inner.Heard.{count_before};
-ghost use Rattle.warp_table.specs.inner.Joint.{IsLeastOf, all_tags, counted_in, doubled_in, joint_noted};
-ghost use Rattle.warp_table.specs.inner.Tally.{AreInOrder, IsJudged, before_of};
+ghost use Rattle.warp_table.specs.inner.Joint.{IsLeastOf, all_tags, counted_in, doubled_in};
+ghost use Rattle.warp_table.specs.inner.Joint.{earlier_some, joint_noted};
+ghost use Rattle.warp_table.specs.inner.Tally.{AreInOrder, Counts, IsJudged, announcement_of, before_of};
 
 use crate::announced::Announcements;
 use crate::announcer::{Announcer, earlier};
@@ -94,7 +95,7 @@ impl JointAnnouncer {
 }
 
 /// How many names of all these origins are before the tag, of those that have an event or a withdrawal. They stay.
-pub(crate) fn count_all(
+fn count_all(
     announcers: &mut [Announcer],
     kind: EventOrWithdrawal,
     tag: Tag,
@@ -105,9 +106,59 @@ pub(crate) fn count_all(
 {
     let mut count = 0;
     for announcer in announcers.iter_mut() {
-        count += announcer.count_before(kind, tag)?;
+        let own = announcer.count_before(kind, tag)?;
+        count += own;
     }
     Ok(count)
+}
+
+/// `count_all` of all that are kept.
+fn count_kept(
+    announcers: &mut Vec<Announcer>,
+    kind: EventOrWithdrawal,
+    tag: Tag,
+) -> Result<usize, AllocError>
+    requires { length (all_tags kind announcers.old.items) < 2 ^ 64 }
+    ensures same { announcers.new.items ≡ announcers.old.items }
+    ensures count { IfOk result (λ count. count ≡ count_before tag (all_tags kind announcers.old.items)) }
+{
+    count_all(announcers, kind, tag)
+}
+
+/// An announcement of all these origins together, with how many of their names are before its tag. They stay.
+pub(crate) fn tally_of(
+    announcers: &mut Vec<Announcer>,
+    tag: Tag,
+    events: u32,
+    withdrawn: u32,
+) -> Result<Tally, AllocError>
+    requires events { length (all_tags EventOrWithdrawal.Event announcers.old.items) < 2 ^ 64 }
+    requires withdrawn { length (all_tags EventOrWithdrawal.Withdrawal announcers.old.items) < 2 ^ 64 }
+    ensures same { announcers.new.items ≡ announcers.old.items }
+    ensures said { IfOk result
+        (λ tally. announcement_of tally ≡ record { tag = tag; events = events; withdrawn = withdrawn }) }
+    ensures counts { IfOk result (λ tally. Counts (all_tags EventOrWithdrawal.Event announcers.old.items)
+        (all_tags EventOrWithdrawal.Withdrawal announcers.old.items) tally) }
+{
+    let events_before = count_kept(announcers, EventOrWithdrawal::Event, tag)?;
+    let withdrawn_before = count_kept(announcers, EventOrWithdrawal::Withdrawal, tag)?;
+    Ok(Tally {
+        tag,
+        events,
+        withdrawn,
+        events_before,
+        withdrawn_before,
+    })
+}
+
+/// The earlier one of a tag, if there is one, and the least of this origin's names of two payloads, if it has one.
+fn with_doubled(least: Option<Tag>, announcer: &Announcer) -> Option<Tag>
+    ensures { result ≡ earlier_some least announcer.now.doubled }
+{
+    match announcer.doubled() {
+        Some(tag) => Some(earlier(least, tag)),
+        None => least,
+    }
 }
 
 /// The least tag of a name of two payloads, of any of these origins.
@@ -116,9 +167,7 @@ pub(crate) fn least_doubled(announcers: &[Announcer]) -> Option<Tag>
 {
     let mut least = None;
     for announcer in announcers {
-        if let Some(tag) = announcer.doubled() {
-            least = Some(earlier(least, tag));
-        }
+        least = with_doubled(least, announcer);
     }
     least
 }

@@ -25,12 +25,12 @@ ghost use Rattle.warp_table.specs.inner.Tally.{AreInOrder, IsJudged, before_of};
 ghost use Rattle.warp_table.specs.declared.tally.EventOrWithdrawal.{EventOrWithdrawal};
 
 use crate::announcer::Announcer;
-use crate::joint::{JointAnnouncer, count_all, least_doubled};
+use crate::joint::{JointAnnouncer, least_doubled, tally_of};
 use crate::names::{Name, Names};
 use crate::others::Others;
 use crate::rows::Known;
 use crate::table::{Added, Parted, part, stands};
-use crate::tally::{EventOrWithdrawal, Tally};
+use crate::tally::EventOrWithdrawal;
 use warp_record::Record;
 use warp_tag::{OutOfMemory, Tag};
 
@@ -515,6 +515,23 @@ fn note_counted(
     Ok(added)
 }
 
+/// What comes of a record that stands at this place, and else goes to the next one.
+fn added_at(found: Option<u32>, next: u32) -> Added
+    ensures known { IfSome found (λ at. (result.place ≡ at) × (result.is_new ≡ false)) }
+    ensures new { IfNone found ((result.place ≡ next) × IsTrue result.is_new) }
+{
+    match found {
+        Some(place) => Added {
+            place,
+            is_new: false,
+        },
+        None => Added {
+            place: next,
+            is_new: true,
+        },
+    }
+}
+
 /// Adds a joint announcement, behind the records that there are where it is new, to the places of the others, and to what
 /// is kept of joint ones. What is kept stays on an `Err`, and what is heard.
 fn note_joint(
@@ -547,27 +564,12 @@ fn note_joint(
     else {
         unreachable!()
     };
+    let (events, withdrawn) = (events.get(), withdrawn.get());
     let next = records.len() as u32 + 1;
-    let events_before = count_all(announcers, EventOrWithdrawal::Event, tag)?;
-    let withdrawn_before = count_all(announcers, EventOrWithdrawal::Withdrawal, tag)?;
-    let tally = Tally {
-        tag,
-        events: events.get(),
-        withdrawn: withdrawn.get(),
-        events_before,
-        withdrawn_before,
-    };
+    let tally = tally_of(announcers, tag, events, withdrawn)?;
     let doubled = least_doubled(announcers);
-    match others.enter_joint(joint, record, tally, doubled, next)? {
-        Some(place) => Ok(Added {
-            place,
-            is_new: false,
-        }),
-        None => Ok(Added {
-            place: next,
-            is_new: true,
-        }),
-    }
+    let found = others.enter_joint(joint, record, tally, doubled, next)?;
+    Ok(added_at(found, next))
 }
 
 /// Adds a record, behind those that there are where it is new, to what is kept and heard. What is kept stays on an

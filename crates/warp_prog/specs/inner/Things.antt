@@ -20,8 +20,8 @@ count_of Reactions r = length r.reactions
 -- how many of a kind all reactors of a file of this form may have together
 abbrev pub most_of : LimitedThings → Form → ℕ
 most_of Variables form = most_scalars form
-most_of Arrays form = most_arrays
-most_of Cells form = most_cells
+most_of Arrays form = most_arrays form
+most_of Cells form = most_cells form
 most_of Ports form = most_ports form
 most_of Actions form = most_actions form
 most_of Timers form = most_timers form

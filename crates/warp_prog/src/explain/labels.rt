@@ -1,9 +1,12 @@
 //! The names that stand for numbers: `REACTOR.NAME` of each thing of a program, in the order of its numbers.
-ghost use Rattle.std.specs.Prelude.{◌≡◌, ◌+◌, ◌++◌, IfOk, OnOk, map, option_map, string_bytes};
+ghost use Rattle.std.specs.Prelude.{◌≡◌, ◌≤◌, ◌+◌, ◌++◌, IfOk, OnOk, false, length, map, option_map, string_bytes};
+ghost use Rattle.warp_tag.specs.Limits.{most_variables, widest};
 ghost use Rattle.warp_step.specs.Labelled.{array_name};
+ghost use Rattle.warp_prog.specs.Exceeds.{exceeds_limits};
 ghost use Rattle.warp_prog.specs.Explain.{arrays_from, arrays_in, called_in, hidden_from, hidden_in, label_of, labelled};
 ghost use Rattle.warp_prog.specs.Explain.{labels_in, names_of, port_called, port_names, reactor_called};
-ghost use Rattle.warp_prog.specs.Limits.{cells_of};
+ghost use Rattle.warp_prog.specs.Limits.{cells_of, total};
+ghost use Rattle.warp_prog.specs.Numbered.{variables_in};
 ghost use Rattle.warp_prog.specs.Uses.{action_names, timer_names, variable_names};
 ghost use Rattle.warp_prog.specs.View.{file_tree, reactor_tree};
 
@@ -61,6 +64,7 @@ impl Model for Labels {
 
 /// The labels of a file.
 pub(crate) fn labels_of(alloc: Global, file: &ProgramFile) -> Result<Labels, AllocError>
+    requires { exceeds_limits (file_tree file.now) ≡ false }
     ensures { IfOk result (λ l. l ≡ names_of (file_tree file.now)) }
 {
     let inside = inside_all(alloc, &file.reactors)?;
@@ -84,6 +88,7 @@ pub(crate) fn labels_of(alloc: Global, file: &ProgramFile) -> Result<Labels, All
 
 /// The numbers of the hidden variables of these reactors.
 fn hidden_numbers(alloc: Global, reactors: &[Reactor]) -> Result<Vec<u32>, AllocError>
+    requires { variables_in (map reactor_tree reactors.now) ≤ most_variables widest }
     ensures { IfOk result (λ ns. ns.items ≡ hidden_from 0 (map reactor_tree reactors.now)) }
 {
     let mut numbers = Vec::new(alloc);
@@ -97,6 +102,7 @@ fn hidden_numbers(alloc: Global, reactors: &[Reactor]) -> Result<Vec<u32>, Alloc
 
 /// Adds the numbers of the hidden variables of a reactor, whose first variable has this number.
 fn add_hidden(numbers: &mut Vec<u32>, first: usize, reactor: &Reactor) -> Result<(), AllocError>
+    requires { first + length reactor.now.variables.items ≤ most_variables widest }
     ensures { OnOk result (numbers.new.items ≡
         numbers.old.items ++ hidden_in first (reactor_tree reactor.now).hidden reactor.now.variables.items) }
 {
@@ -114,6 +120,7 @@ fn array_labels(
     reactors: &[Reactor],
     variables: usize,
 ) -> Result<Vec<ArrayLabel>, AllocError>
+    requires { variables + total (λ r. cells_of r.arrays) (map reactor_tree reactors.now) ≤ most_variables widest }
     ensures { IfOk result
         (λ ls. map array_name ls.items ≡ arrays_from variables (map reactor_tree reactors.now)) }
 {
@@ -132,6 +139,7 @@ fn add_arrays(
     first: usize,
     reactor: &Reactor,
 ) -> Result<usize, AllocError>
+    requires { first + cells_of (reactor_tree reactor.now).arrays ≤ most_variables widest }
     ensures { IfOk result (λ next. (next ≡ first + cells_of (reactor_tree reactor.now).arrays)
         × (map array_name labels.new.items ≡ map array_name labels.old.items
         ++ arrays_in first (reactor_tree reactor.now) (reactor_tree reactor.now).arrays)) }

@@ -1,10 +1,10 @@
 //! The work of a file: how many nodes of expressions and statements one tag may walk at most, each loop's as often as it
 //! may turn. Only files of version 4 have a limit of it.
-ghost use Rattle.std.specs.Prelude.{◌≡◌, ◌≤◌, ◌-◌, ◌*◌, ℕ, map, nat_lt, SomeIff};
+ghost use Rattle.std.specs.Prelude.{◌≡◌, ◌≤◌, ◌+◌, ◌-◌, ◌*◌, ℕ, map, nat_lt, true, SomeIff};
 ghost use Rattle.warp_prog.specs.Limits.{total};
 ghost use Rattle.warp_prog.specs.View.{file_tree, reaction_tree, reactor_tree, statement_tree, term_tree};
 ghost use Rattle.warp_prog.specs.Work.{body_work, most_work, reaction_work, reactor_work, statement_work, term_work};
-ghost use Rattle.warp_prog.specs.Work.{IsWork, turns_work, work_exceeds};
+ghost use Rattle.warp_prog.specs.Work.{IsWork, are_at_most, shown, turns_work, work_exceeds};
 ghost use Rattle.warp_prog.specs.inner.Rule.{statements_tree};
 
 use crate::explain::limits::work::note_work;
@@ -154,7 +154,8 @@ fn room_after_term(term: &Expression, room: u64) -> Option<u64>
     }
 }
 
-/// The work of the reactions of a file within the limits.
+/// The work of the reactions of a file. Of more than a count can show it is the greatest one, as in no file of version 4
+/// that is within the limits.
 pub(crate) fn work_of(file: &ProgramFile) -> Work
     ensures { IsWork (file_tree file.now) result }
 {
@@ -171,14 +172,38 @@ pub(crate) fn work_of(file: &ProgramFile) -> Work
 }
 
 /// Adds the work of the reactions of the reactor at this place.
-fn add_reactor(work: &mut Work, place: usize, reactor: &Reactor) {
+fn add_reactor(work: &mut Work, place: usize, reactor: &Reactor)
+    ensures all { work.new.all ≡ shown (work.old.all + reactor_work (reactor_tree reactor.now)) }
+    ensures most { work.old.most ≤ work.new.most }
+    ensures each { are_at_most work.new.most (reactor_tree reactor.now).reactions ≡ true }
+{
     for (i, reaction) in reactor.reactions.iter().enumerate() {
-        let its = MOST_WORK - room_after_reaction(reaction, MOST_WORK).unwrap_or(0);
-        work.all = work.all.saturating_add(its);
-        if its > work.most {
-            work.most = its;
-            work.reactor = place;
-            work.reaction = i;
+        work.add(place, i, shown_work(reaction));
+    }
+}
+
+/// The work of a reaction, as far as a count shows it.
+fn shown_work(reaction: &Reaction) -> u64
+    ensures { result ≡ shown (reaction_work (reaction_tree reaction.now)) }
+{
+    match room_after_reaction(reaction, u64::MAX) {
+        Some(left) => u64::MAX - left,
+        None => u64::MAX,
+    }
+}
+
+impl Work {
+    /// Adds the work of the reaction at this place of the reactor at that one.
+    fn add(&mut self, reactor: usize, reaction: usize, its: u64)
+        ensures all { self.new.all ≡ shown (self.old.all + its) }
+        ensures most { self.old.most ≤ self.new.most }
+        ensures its { its ≤ self.new.most }
+    {
+        self.all = self.all.saturating_add(its);
+        if its > self.most {
+            self.most = its;
+            self.reactor = reactor;
+            self.reaction = reaction;
         }
     }
 }

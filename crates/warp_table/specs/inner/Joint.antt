@@ -1,5 +1,5 @@
 -- What is kept of joint announcements, beside what is heard of each origin. For proofs alone.
-use Rattle.std.specs.Prelude.{◌≡◌, ℕ, Bool, false, ◌||◌, if◌then◌else◌, IfSome, Option, Some, List, [], ◌∷◌, ◌++◌, Contains, ◌↔◌, fold, map}
+use Rattle.std.specs.Prelude.{◌≡◌, ℕ, Bool, false, ◌||◌, if◌then◌else◌, IfSome, Option, None, Some, List, [], ◌∷◌, ◌++◌, Contains, ◌↔◌, fold, map}
 use Rattle.std.specs.List.{insert, list_any}
 use Rattle.warp_tag.specs.Moment.{Moment, is_before}
 use Rattle.warp_record.specs.declared.record.Record.{Record}
@@ -9,7 +9,7 @@ use Rattle.warp_table.specs.Records.{IsIn, Records, set_of}
 use Rattle.warp_table.specs.declared.joint.JointAnnouncer.{JointAnnouncer}
 use Rattle.warp_table.specs.declared.tally.EventOrWithdrawal.{EventOrWithdrawal}
 use Rattle.warp_table.specs.declared.tally.EventOrWithdrawal.TheVariants.{Event, Withdrawal}
-use Rattle.warp_table.specs.inner.Heard.{Heard, heard_at}
+use Rattle.warp_table.specs.inner.Heard.{Heard, earlier_of, heard_at}
 use Rattle.warp_table.specs.inner.Tally.{AreKept, announcement_of, beyond, counted, has_doubled, place_of, tags_of, with_name, with_tally}
 use Rattle.warp_table.specs.declared.tally.Tally.{Tally}
 
@@ -45,6 +45,11 @@ joint_with (record_of.Event origin tag input value) is_first joint = if is_first
 joint_with (record_of.Withdraw origin tag) is_first joint = counted_in Withdrawal tag joint
 joint_with (record_of.Announce origin tag events withdrawn) is_first joint = joint
 joint_with (record_of.Joint tag events withdrawn) is_first joint = joint
+
+-- the earlier one of two tags, where there are some
+abbrev pub earlier_some : Option Moment → Option Moment → Option Moment
+earlier_some one None = one
+earlier_some one (Some tag) = Some (earlier_of one tag)
 
 -- the least tag of two payloads that is heard of an origin, where there is one
 pub record IsLeastOf (heards : List Heard) (doubled : Option Moment) : Type 0 where

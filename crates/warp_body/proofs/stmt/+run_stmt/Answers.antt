@@ -1,9 +1,12 @@
 -- a turn of a loop
-use Rattle.std.proofs.Common.{◌≡◌, ◌<◌, ◌∙◌, true, IsTrue, rules, arith, subst, sym}
+use Rattle.std.proofs.Common.{◌≡◌, ◌<◌, ◌∙◌, true, ap, IsTrue, rules, arith, subst, sym}
+use Rattle.std.proofs.lemmas.Bool.{and_parts}
 use Rattle.std.specs.List.{list_all}
 use Rattle.warp_body.specs.Term.{sizes_of, term_fits, term_of}
-use Rattle.warp_body.specs.Effect.{Effect, statements_of, effect_of, schedules_of, body_fits, wish_fits, holds}
+use Rattle.warp_body.specs.Effect.{Effect, Statement, statement_of, statements_of, effect_of, schedules_of, statement_fits, body_fits, wish_fits, holds}
 use Rattle.warp_body.specs.declared.place.Sizes.{Sizes}
+use Rattle.warp_body.proofs.Bodies.{schedule_is}
+use Rattle.warp_body.proofs.MachineLemmas.{fits_and_last}
 use Rattle.warp_body.proofs.Turns.{turn_made, turn_counted}
 use Rattle.warp_body.proofs.stmt.+run_stmt.Goals as goal
 
@@ -12,10 +15,18 @@ run_turns-run_body-requires t c =
     let kept = c.turns.invariant in
     let some : 0 < c.turns.left = search rules in
     let count = turn_counted c.turns.left (schedules_of (statements_of c.args.body.now)) some in
-    record {
-      fits = kept.fits;
-      room = let now = kept.room in let all = c.requires.room in omega (count, now, all, arith);
-    }
+    let now = kept.room in
+    let all = c.requires.room in
+    (search rules, (kept.fits, omega (count, now, all, arith)))
+
+-- a wish that is put behind the others fits as its statement does
+pub Stmt::run-returns-in-Schedule-clause-wishes : goal.Stmt::run-returns-in-Schedule-clause-wishes
+Stmt::run-returns-in-Schedule-clause-wishes t c =
+    let w = c.in-Schedule in
+    let sizes = sizes_of c.args.vars.now c.args.present.now in
+    let is = ap statement_of w.is ∙ schedule_is w.action w.delay w.expr in
+    let fits = subst (λ (s : Statement). IsTrue (statement_fits sizes s)) is c.requires.fits in
+    fits_and_last sizes c.args.wishes.now.items _ _ c.push.ensures.items (and_parts _ _ fits).0
 
 pub run_turns-turns-preserved : goal.run_turns-turns-preserved
 run_turns-turns-preserved t c =

@@ -1,5 +1,5 @@
 -- the parts make the whole
-use Rattle.std.proofs.Common.{rules, ◌≡◌, ◌*ℤ◌, ℤ, pos, Bool, true, if◌then◌else◌, sym, ap, ◌∙◌, to_z, of_z}
+use Rattle.std.proofs.Common.{rules, ◌≡◌, ◌*ℤ◌, pos, Bool, true, if◌then◌else◌, sym, ap, ◌∙◌, to_z, of_z}
 use Rattle.std.specs.Int.{int_wrapping_div_euclid, w64, w128}
 use Rattle.warp_body.specs.Term.{is_true, low_bits_of}
 use Rattle.warp_body.proofs.wide.multiply_divide.Goals as goal

@@ -1,4 +1,4 @@
-use Rattle.std.proofs.Common.{◌≡◌, ◌∷◌, [], decimal, sym, ◌∙◌, arith}
+use Rattle.std.proofs.Common.{◌∷◌, [], decimal, sym, ◌∙◌, arith}
 use Rattle.warp_record.proofs.record_text.joint_of.Goals as goal
 
 pub returns-in_err-time-clause-none : goal.returns-in_err-time-clause-none

@@ -1,4 +1,3 @@
-use Rattle.std.proofs.Common.{◌≡◌, ◌∷◌, codes, ◌∙◌, ap, sym}
 use Rattle.warp_record.specs.inner.Behind.{words_behind}
 use Rattle.warp_record.proofs.LineWords.{IfNone_then}
 use Rattle.warp_record.proofs.RecordTexts.{announcement_words}

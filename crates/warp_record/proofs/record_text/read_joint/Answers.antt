@@ -1,4 +1,4 @@
-use Rattle.std.proofs.Common.{◌≡◌, ◌∷◌, codes, drop, List, ℕ, ap, sym, ◌∙◌, true≢false}
+use Rattle.std.proofs.Common.{codes, sym, ◌∙◌, true≢false}
 use Rattle.warp_record.specs.inner.Behind.{words_behind}
 use Rattle.warp_record.proofs.LineWords.{IfNone_then}
 use Rattle.warp_record.proofs.RecordTexts.{joint_words}

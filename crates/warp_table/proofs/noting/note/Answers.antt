@@ -1,5 +1,5 @@
 -- a record of an origin is counted, and a joint announcement goes to the others
-use Rattle.std.proofs.Common.{◌≡◌, ◌<◌, ◌∷◌, ◌++◌, [], ℕ, None, Some, Option, List, length, refl, sym, subst, ◌∙◌}
+use Rattle.std.proofs.Common.{◌≡◌, ◌+◌, ◌<◌, ◌∷◌, ◌++◌, [], ℕ, None, Some, Option, List, length, refl, sym, subst, ◌∙◌}
 use Rattle.std.specs.Prelude.{IfSome}
 use Rattle.std.proofs.lemmas.Result.{IfOk-weaker}
 use Rattle.warp_tag.specs.Limits.{most_origins, widest}
@@ -8,6 +8,7 @@ use Rattle.warp_record.specs.declared.record.Record.{Record}
 use Rattle.warp_record.specs.declared.record.Record.TheVariants.{Event, Withdraw, Announce, Joint}
 use Rattle.warp_record.specs.Order.{kind_of}
 use Rattle.warp_table.specs.Log.{IsAt}
+use Rattle.warp_table.specs.declared.joint.JointAnnouncer.{JointAnnouncer}
 use Rattle.warp_table.specs.declared.rows.Known.{Known}
 use Rattle.warp_table.specs.declared.names.Name.{Name}
 use Rattle.warp_table.specs.inner.Heard.{AreHeard, Heard, nothing_heard}
@@ -50,3 +51,22 @@ returns-in-None-clause-new c =
       subst (λ (hs : List Heard). AreHeard (c.args.records.now ++ c.args.record.now ∷ []) hs) (sym c.note_joint.ensures.same) both.1,
       subst (λ (hs : List Heard). KeepsJoint (c.args.records.now ++ c.args.record.now ∷ []) hs c.note_joint.new.joint) (sym c.note_joint.ensures.same) says.3,
     )) c.note_joint.ensures.new
+
+-- a joint announcement that is known stands at its place
+joint_at : (records : List Record) (names : List (Name × Known)) (others : OtherPlaces) (said : Record) (place : ℕ) → kind_of said ≡ 3 → Keeps records names others → other_place others said ≡ Some place → IsAt records place said
+joint_at records names others (Joint tag events withdrawn) place kind keeps is = keeps.places.so (Joint tag events withdrawn) place is
+joint_at records names others (Event o tag input value) place kind keeps is = absurd (cc)
+joint_at records names others (Withdraw o tag) place kind keeps is = absurd (cc)
+joint_at records names others (Announce o tag events withdrawn) place kind keeps is = absurd (cc)
+
+pub returns-in-None-clause-known : goal.returns-in-None-clause-known
+returns-in-None-clause-known c =
+    IfOk-weaker c.note_joint.result _ _ (λ added says known.
+    let is = says known in (
+      joint_at c.args.records.now c.args.names.now (places c.args.others.now) c.args.record.now added.place (joint_kind c.args.record.now (sym c.in-None.ensures)) c.requires.keeps is.0,
+      refl,
+      is.1,
+      subst (λ (hs : List Heard). AreHeard c.args.records.now hs) (sym c.note_joint.ensures.same) c.requires.heard,
+      subst (λ (hs : List Heard). KeepsJoint c.args.records.now hs c.note_joint.new.joint) (sym c.note_joint.ensures.same)
+          (subst (λ (j : JointAnnouncer). KeepsJoint c.args.records.now c.args.announcers.now.items j) (sym is.2) c.requires.joint),
+    )) c.note_joint.ensures.known
