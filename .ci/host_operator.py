@@ -490,6 +490,16 @@ def service_program():
             return got.returncode, got.stdout
 
         same(run("x"), (127, ""), "no program")
+        # The script of a checkout, which may begin a proof, is no program, wherever it is found.
+        for at in (path, beside):
+            at.symlink_to(hosting.ROOT / "warpd")
+            got = subprocess.run([script, "x"], capture_output=True, text=True, timeout=60, env=environment)
+            same((got.returncode, got.stdout), (127, ""), "the script of a checkout")
+            holds(f"there is no warpd, and {at} is the script of a checkout, " in got.stderr, f"that is told: {got.stderr!r}")
+            write_program(built, "echo built")
+            same(run("x"), (0, "built\n"), "the proved program in the place of the script of a checkout")
+            for it in (at, built):
+                it.unlink()
         for at in (built, path, beside):
             write_program(at, f'echo "{at}" "$@"')
             same(run("x", "--open"), (0, f"{at} host --operator --until-input-ends x --open\n"), "the program")

@@ -282,6 +282,44 @@ def left_with_more():
         same((room.file.read_bytes(), fresh.read_bytes()), (many, few), "the files")
 
 
+def left_at_the_end():
+    """A fresh file that has the whole log and can't take the journal's place is written once, and stays as it is where the host ends in order:
+    the next start keeps it. A file that was removed just before the end is told, or is written anew by then."""
+    with Room() as room:
+        fresh, aside = (Path(f"{room.file}.{it}") for it in ("new", "damaged"))
+        with room.host() as host:
+            old = fill(host, 2)
+        copy = Path(room.folder.name, "copy")
+        copy.write_bytes(room.file.read_bytes())
+        host = room.host()
+        try:
+            sent = [f"event 0 {at} 0 0 1" for at in range(50, 60)]
+            same(host.talk().ask_all(sent)[-1], "taken 16", "the last record")
+            copy.rename(room.file)
+            wait_for(lambda: remarks(host) == [lost(GONE), ANOTHER], "what is said", 30)
+            data, before = fresh.read_bytes(), fresh.stat()
+            holds(holds_records(fresh, old + sent), "the fresh file")
+            time.sleep(2.5)
+            host.process.stdin.close()
+            same(host.process.wait(60), 4, "the status")
+            same(remarks(host), [lost(GONE), ANOTHER, "cannot write the journal"], "what is said")
+        finally:
+            host.kill()
+        after = fresh.stat()
+        same((after.st_ino, after.st_mtime_ns), (before.st_ino, before.st_mtime_ns), "when the fresh file was written")
+        room.holds_log(old, said=[is_kept(room.file, len(data)), journals.LEFT])
+        same(aside.read_bytes(), data, "what is kept aside")
+        host = room.host()
+        try:
+            room.file.unlink()
+            host.process.stdin.close()
+            status = host.process.wait(60)
+            same(remarks(host)[0], lost(GONE), "what is said")
+            same(status, 0 if room.file.exists() else 4, "the status")
+        finally:
+            host.kill()
+
+
 def left_by_users():
     """What a host left in the fresh file is kept also where the journal's file is another user's, as a copy that was put in its place. What
     neither of the two owns is not touched, and no host starts."""
@@ -364,4 +402,4 @@ def not_begun():
         same([it.name for it in Path(room.folder.name).iterdir()], [room.file.name], "what stands there")
 
 
-CASES = [one_host, moved, replaced, permissions, beside, no_file, left_with_more, left_by_users, own_lock, lets_go, not_begun]
+CASES = [one_host, moved, replaced, permissions, beside, no_file, left_with_more, left_at_the_end, left_by_users, own_lock, lets_go, not_begun]

@@ -314,6 +314,25 @@ pub(crate) fn look<F: Files<File = File>>(
     Ok(())
 }
 
+/// Whether the fresh file beside the journal is this one, just as long as it was written.
+pub(crate) fn is_fresh<F: Files<File = File>>(
+    files: &F,
+    alloc: Global,
+    place: &JournalPlace,
+    fresh: &JournalFile,
+) -> bool {
+    let Ok(name) = path_beside(alloc, place.path.as_str()) else {
+        return false;
+    };
+    match (
+        fs::symlink_metadata(files, name.as_str()),
+        fresh.file.metadata(),
+    ) {
+        (Ok(found), Ok(own)) => id_of(&found) == id_of(&own) && found.len() == fresh.len(),
+        _ => false,
+    }
+}
+
 /// Has this file, the fresh one beside the journal, take its place, on the disk too. Where another file than the
 /// journal's stands there, that stays.
 pub(crate) fn take_place<F: Files<File = File>>(
@@ -378,6 +397,9 @@ pub trait FreshFiles {
         fresh: &JournalFile,
     ) -> Result<(), FileFault>;
 
+    /// Whether the fresh file beside the journal is this one, just as long as it was written.
+    fn is_beside(&self, alloc: Global, place: &JournalPlace, fresh: &JournalFile) -> bool;
+
     /// Looks whether what stands under the journal's name is its file, of just so many bytes.
     fn look_at(&self, place: &JournalPlace, len: u64) -> Result<(), FileFault>;
 }
@@ -399,6 +421,10 @@ impl<X: Files<File = File>> FreshFiles for X {
         fresh: &JournalFile,
     ) -> Result<(), FileFault> {
         take_place(self, alloc, place, fresh)
+    }
+
+    fn is_beside(&self, alloc: Global, place: &JournalPlace, fresh: &JournalFile) -> bool {
+        is_fresh(self, alloc, place, fresh)
     }
 
     fn look_at(&self, place: &JournalPlace, len: u64) -> Result<(), FileFault> {

@@ -2,7 +2,8 @@
 //!
 //! A sync that answers well proves nothing of what failed before it, so nothing of the old file is used again. The
 //! worker hands the log from its beginning. Until the fresh file is on the disk nothing is told of more of the log than
-//! the old one was written for, with `always` synced, and clients' records are refused.
+//! the old one was written for, with `always` synced, and clients' records are refused. A fresh file that has the whole
+//! log and can't take the old one's place stays as it is: it may be the only copy.
 ghost use Rattle.std.specs.Prelude.{[], ◌∷◌, ◌++◌, ℕ, List, OnOk};
 ghost use Rattle.warp_record.specs.declared.record.Record.{Record};
 ghost use Rattle.warp_journal.specs.Keeping.{KeepsAll};
@@ -13,6 +14,7 @@ use crate::journal_file::JournalFile;
 use crate::operator;
 use crate::scribe::{Scribe, second_now};
 use crate::tallies::{Synced, Written, sync};
+use std::fs::File;
 use std::sync::Wait;
 use std::time::{Clock, Duration};
 use warp_journal::{Disk, Failed, Keeper};
@@ -27,6 +29,15 @@ const MOMENT: u64 = 1;
 /// So many records are written at once.
 const BATCH: u32 = 1_024;
 
+/// The whole log in the fresh file beside the journal, on the disk.
+#[derive(Drop)]
+struct Whole {
+    keeper: Keeper<JournalFile>,
+    /// For the thread that syncs.
+    handle: File,
+    synced: Synced,
+}
+
 impl<'a> Scribe<'a> {
     /// Why the journal can't be written.
     fn reason(&mut self) -> FileFault {
@@ -36,7 +47,7 @@ impl<'a> Scribe<'a> {
         }
     }
 
-    /// Tries each second to write the journal anew, until that is done; whether it is, before this thread is to end.
+    /// Writes the journal anew, and tries that again each second, until it is done; whether it is, before this thread is to end.
     pub(crate) fn renew<X: Wait + Clock + FreshFiles>(&mut self, rt: &X) -> bool {
         self.durable.note_failing(true);
         self.bells.wake_worker();
@@ -45,15 +56,17 @@ impl<'a> Scribe<'a> {
         // The fresh file stays while this goes on: a host that begins beside it trusts the old one no more.
         let _ = rt.begin_fresh(self.alloc, &self.place, self.keeper.disk());
         let least = self.keeper.len();
+        let mut whole = None;
         for _ in rt.forever() {
+            // Nothing is begun at the end: it would not become whole, and what is there may be.
             if self.durable.is_over() {
                 return false;
             }
-            self.durable.sleep(rt, Duration::from_millis(PAUSE));
-            match self.write_anew(rt, least) {
+            match self.write_anew(rt, least, &mut whole) {
                 Ok(()) => break,
                 Err(fault) => self.tell_change(rt, &mut told, fault),
             }
+            self.durable.sleep(rt, Duration::from_millis(PAUSE));
         }
         self.durable.note_failing(false);
         self.bells.wake_worker();
@@ -70,30 +83,74 @@ impl<'a> Scribe<'a> {
         *told = fault;
     }
 
-    /// Writes the log, of which there are so many records at least, to a fresh file, brings it to the disk, and has it
-    /// take the journal's place.
+    /// Has a fresh file with the whole log, of which there are so many records at least, take the journal's place. Where it
+    /// can't, it is kept for the next time.
     fn write_anew<X: Wait + Clock + FreshFiles>(
         &mut self,
         rt: &X,
         least: u32,
+        whole: &mut Option<Whole>,
     ) -> Result<(), FileFault> {
+        let found = match self.still_whole(rt, whole) {
+            Some(found) => found,
+            None => self.make_whole(rt, least)?,
+        };
+        match rt.replace_by_fresh(self.alloc, &mut self.place, found.keeper.disk()) {
+            Ok(()) => {
+                self.take_up(rt, found);
+                Ok(())
+            }
+            Err(fault) => {
+                *whole = Some(found);
+                Err(fault)
+            }
+        }
+    }
+
+    /// The fresh file that was made before, where it still stands beside the journal as it was written.
+    fn still_whole<X: FreshFiles>(&self, rt: &X, whole: &mut Option<Whole>) -> Option<Whole> {
+        let found = whole.take()?;
+        if rt.is_beside(self.alloc, &self.place, found.keeper.disk()) {
+            return Some(found);
+        }
+        None
+    }
+
+    /// Writes the log, of which there are so many records at least, to a fresh file, and brings it to the disk.
+    fn make_whole<X: Wait + Clock + FreshFiles>(
+        &mut self,
+        rt: &X,
+        least: u32,
+    ) -> Result<Whole, FileFault> {
         let (disk, journal) = rt.begin_fresh(self.alloc, &self.place, self.keeper.disk())?;
         let handle = disk.file.try_clone()?;
-        let mut fresh = Keeper::new(self.alloc, disk, journal);
+        let mut keeper = Keeper::new(self.alloc, disk, journal);
         self.beginnings = self.beginnings.wrapping_add(1);
         self.durable.ask_for_all(self.beginnings);
-        let Ok(synced) = self.fill(rt, &mut fresh, least) else {
-            return Err(FileFault::of_system(fresh.disk().fault()));
-        };
-        rt.replace_by_fresh(self.alloc, &mut self.place, fresh.disk())?;
-        self.keeper = fresh;
+        match self.fill(rt, &mut keeper, least) {
+            Ok(synced) => Ok(Whole {
+                keeper,
+                handle,
+                synced,
+            }),
+            Err(_) => Err(FileFault::of_system(keeper.disk().fault())),
+        }
+    }
+
+    /// The fresh file has taken the journal's place: it is gone on with.
+    fn take_up<X: Clock>(&mut self, rt: &X, whole: Whole) {
+        let Whole {
+            keeper,
+            handle,
+            synced,
+        } = whole;
+        self.keeper = keeper;
         self.behind_since = None;
         self.syncs.begin_anew(handle);
         self.durable.note_waiting(None);
         self.durable.note_written(Written::of_synced(synced));
         self.durable.note_synced(synced);
         self.let_go(rt, synced);
-        Ok(())
     }
 
     /// Has the thread that syncs take the fresh file at once, which is on the disk: so none holds the old one any longer.

@@ -210,7 +210,7 @@ impl<'a> Scribe<'a> {
         self.behind_since.is_none() && !self.syncs.is_under_way()
     }
 
-    /// Writes until it is to end and all is on the disk, or the disk fails.
+    /// Writes until it is to end and all is on the disk, under the file's name, or the disk fails.
     fn write_on<X: Wait + Clock + FreshFiles>(&mut self, rt: &X) -> Result<(), Failed> {
         for _ in rt.forever() {
             // What was handed before it was set is found by the work behind this look.
@@ -219,7 +219,7 @@ impl<'a> Scribe<'a> {
                 continue;
             }
             if last && self.is_all_synced() {
-                break;
+                return self.look(rt, rt.monotonic().unwrap_or(Duration::MAX));
             }
             self.rest(rt);
         }
