@@ -21,9 +21,9 @@ NO_REPLIES = {
     "event 0 5 0 0 3": (b"var 1 2", b"taken 0", b"taken 10000001", b"taken 1 2", b"none"),
     "var 0": (b"horizon 1 0 0", b"none 1", b"none", b"var 1 9223372036854775808", b"var 01 2", b"var 1 -0", b"var  1 2", b"taken 1"),
     "outputs": (b"released 1 1", b"outputs 1 -1"), "lost": (b"outputs 1 1",), "released": (b"released 1 18446744073709551616",),
-    "output 0": (b"none", b"row 5 0 0 3", b"output 1 5 0 64 3", b"output 1 15625001 0 0 3", b"output 1 5 256 0 3"),
+    "output 0": (b"none", b"row 5 0 0 3", b"output 1 5 0 256 3", b"output 1 15625001 0 0 3", b"output 1 5 256 0 3"),
     "horizon": (b"lost 1 1", b"horizon 10000001 0 0"), "breach 0": (b"breach 1 2", b"board 1 0"), "collect": (b"taken 1",),
-    "log 1": (b"none", b"log 1 event 64 5 0 0 3", b"log 1 announce 0 5 0 10000001 0", b"log 1 var 0", b"log 1", b"log 1 withdraw 0 5"),
+    "log 1": (b"none", b"log 1 event 64 5 0 0 3", b"log 1 announce 0 5 0 10000001 0", b"log 1 announce * 5 0 1", b"log 1 var 0", b"log 1", b"log 1 withdraw 0 5"),
     "board": (b"board 1000000000000000000 0", b"board 1048577 0", b"row 5 0 0 3"), "row 0": (b"none 1", b"output 1 5 0 0 3"),
     "counts 0": (b"counts 1 0 1 0 5", b"reached 1 0 5 0"), "reached 0": (b"reached 1 64 5 0",),
     "nonsense": (b"refused 0", b"refused x", b""),
@@ -32,21 +32,24 @@ LONG = (b"9" * 1_000_000, b"Infinity", b"board " + b"9" * 1_000_000 + b" 0")
 DEEP, ENDLESS = b"[" * 100_000, b"a" * (warpd.LONGEST + 1)
 # What is no list of names, by the key where it stands.
 NO_NAMES = {
-    "vars": ([1], ["r.total"] * 257), "outputs": ([[]], ["r.y"] * 65),
-    "inputs": ([[0]], [["0", "r.a"]], [[64, "r.a"]], [[-1, "r.a"]], [[True, "r.a"]], [[0, "r.a"]] * 65),
+    "vars": ([1], ["r.total"] * 1_025), "outputs": ([[]], ["r.y"] * 257),
+    "inputs": ([[0]], [["0", "r.a"]], [[64, "r.a"]], [[-1, "r.a"]], [[True, "r.a"]], [[0, "r.a"]] * 257),
+    "arrays": ([["r.a", 0]], [["r.a", -1, 1]], [["r.a", 0, "1"]], [[1, 0, 1]], [["r.a", 0, 66_561]], [["r.a", 0, 1]] * 257),
+    "hidden": (["r.a"], [-1], [True]),
 }
 NO_ORIGINS = (b"Infinity", b"-Infinity", b"NaN", b"1e999", b"0.0", b"-0", b"9" * 30_000)
 # What is no step, by its key.
 STEP = {"tag": [5, 0], "given": {}, "due": [], "changed": {}, "outputs": {}, "pending": 0}
 NO_STEPS = {
-    "tag": ([5], [5, 256], [-1, 0], "50"), "given": ({str(it): 0 for it in range(65)}, [], {"r.a": 0.5}),
-    "due": ([{}], [{"target": 1, "value": 2}], {}), "changed": ({str(it): 0 for it in range(257)}, {"r.total": True}),
+    "tag": ([5], [5, 256], [-1, 0], "50"), "given": ({str(it): 0 for it in range(257)}, [], {"r.a": 0.5}),
+    "due": ([{}], [{"target": 1, "value": 2}], {}), "changed": ({str(it): 0 for it in range(66_561)}, {"r.total": True}),
     "outputs": ({"r.y": None},), "pending": (257, "0", -1),
     "rollback": ({"from": [9, 0], "to": 5, "again": 1}, {"from": [9, 0], "to": None, "again": -1}, {"from": [9, 0], "again": 1}, 5, None),
 }
 NO_PUSHES = (
     b"log 1", b"released 1", b"vars x", b"step " + DEEP, b"step 5", b'step {"tag":5}', b"step " + ENDLESS, b"breach 1" + b" 0" * 65,
-    b'step {"rollback":{"from":[NaN,0],"to":null,"again":Infinity}}', b"breach 1 64", b"horizon 1 0", b"vars 1" + b" 1" * 257,
+    b'step {"rollback":{"from":[NaN,0],"to":null,"again":Infinity}}', b"breach 1 64", b"horizon 1 0", b"vars 1" + b" 1" * 1_025,
+    b"cells 1", b"cells 1 x", b"cells 1 0 x", b"cells 1 0" + b" 1" * 4_097,
     b"skipped -1", b"frozen 1", b"log 10000001 event 0 5 0 0 3", b"log 1 event 0 5 0 0", b"released 4294967296 5 0 0 3",
     b"vars 1 " + b"9" * 1_000_000,
 )
@@ -172,7 +175,7 @@ def malformed():
     for word, call in calls.items():
         kind = word.encode()
         own = (b"", b" 1 2 3 4", b" 1 2 2") if word != "vars" else (b"",)
-        for told in (*(kind + it for it in (*own, b" x y z", b" 1" * 300)), b"taken 1", b"none 1", b"horizon 1 0 0"):
+        for told in (*(kind + it for it in (*own, b" x y z", b" 1" * 1_100)), b"taken 1", b"none 1", b"horizon 1 0 0"):
             with HostClient(*scripted(NAMES, told + b"\n"), timeout=SECONDS) as it:
                 assert ended(lambda: call(it)).startswith(f"no reply to {word!r}: "), told
                 assert raises(Ended, it.horizon), "a client goes on behind it"

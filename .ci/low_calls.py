@@ -245,7 +245,7 @@ def watching():
     steps = [before([(f"take {text}", "taken") for text in (line, "announce 0 7 0 1 0", "announce 1 7 0 0 0")]),
              Step(["shown 1 false"] * 2, ["update"] * 2, 2, (0,), [[NO_MEMORY, "shown 1 false"]])]
     for question, said, next in (
-        ("vars", ["vars 3 3"], 0), ("releases", ["releases 3 1 0"], 0), ("release 0", ["release 3 5 0 0 3"], 0), ("horizon", ["horizon 3 7 0"], 0),
+        ("vars", ["vars 3 3"], 0), ("cells 0 9", ["cells 3 0 3"], 0), ("releases", ["releases 3 1 0"], 0), ("release 0", ["release 3 5 0 0 3"], 0), ("horizon", ["horizon 3 7 0"], 0),
         ("breaches", ["breach 3"], 0), ("counts 0", ["counts 3 0 1 0 5 0"], 0), ("reached 1", ["reached 3 1 7 0"], 0), ("log 1 2", [f"log 1 {line}"], 2), ("released 0 0", ["released 0 5 0 0 3"], 1),
     ):
         steps.append(Step([*said, f"next {next} of 3, false"], [question], otherwise=[[NO_MEMORY]]))

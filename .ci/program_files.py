@@ -31,8 +31,10 @@ def filled(it, keys, **inside):
 
 
 def full_reactor(it):
-    keys = ("name", "vars", "inputs", "outputs", "actions", "timers", "reactions")
-    return filled(it, keys, reactions=lambda each: filled(each, ("on", "reads", "writes", "body")))
+    """Keys of version 4 are there only where something stands under them."""
+    keys = ("name", "vars", "arrays", "inputs", "outputs", "actions", "timers", "reactions", "called", "hidden")
+    full = filled(it, keys, reactions=lambda each: filled(each, ("on", "reads", "writes", "body")))
+    return {key: full[key] for key in keys if full[key] != [] or key not in ("arrays", "called", "hidden")}
 
 
 def canonical(program):

@@ -116,6 +116,8 @@ export class Replica {
   readonly tick: { time: number; ahead: number } | null
   /** The variables by name, as they are shown. */
   readonly vars: Record<string, Value>
+  /** The cells of an array by its name, as they are shown. */
+  array(name: string): BigInt64Array
   /** The outputs of what is shown, from this number on: what is not final may change. */
   outputs(first?: number): FinalOutput[]
   /** The variables by name over the host's log alone. */

@@ -31,7 +31,7 @@ const PIECE = 60_000
 
 const lineOf = ({ kind, origin, time, micro, input, value, events, withdrawn }) => {
   const behind = { event: ` ${input} ${value}`, withdraw: "", announce: ` ${events} ${withdrawn}` }[kind]
-  return `${kind} ${origin} ${time} ${micro}${behind}`
+  return `${kind} ${origin ?? "*"} ${time} ${micro}${behind}`
 }
 
 const isExecuted = ({ kind }) => kind !== "announce"
@@ -486,6 +486,13 @@ export class Replica {
     })
   }
 
+  /** The cells of an array by its name, as they are shown. */
+  array(name) {
+    this.#take()
+    const { first, count } = this.#names.array(name)
+    return this.#shown.vars().slice(first, first + count)
+  }
+
   /** The variables by name over the host's log alone. */
   get confirmed() {
     this.#take()
@@ -505,7 +512,10 @@ export class Replica {
   }
 
   #named(values) {
-    return Object.fromEntries(Array.from(values, (it, at) => [this.#names.vars[at] ?? at, it]))
+    // Cells of arrays stand behind all variables.
+    const [names, { first } = { first: values.length }] = [this.#names, ...this.#names.arrays]
+    const named = Array.from(values.slice(0, first), (it, at) => [names.vars[at] ?? at, it])
+    return Object.fromEntries(named.filter((_, at) => !names.hidden.includes(at)))
   }
 
   /**

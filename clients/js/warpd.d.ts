@@ -84,8 +84,10 @@ export interface Pushes {
   log: { place: number; record: LogRecord }
   released: ({ index: number; frozen?: undefined } & Row) | { frozen: true }
   vars: { log: number; values: Value[] }
+  /** All cells that are watched, Float64Array where each value is a whole number that it keeps. */
+  cells: { log: number; first: number; values: Float64Array | BigInt64Array }
   horizon: { log: number } & Tag
-  breach: { log: number; origins: number[] }
+  breach: { log: number; origins: number[]; jointly: boolean }
   /**
    * `skipped` lines were left out, since they were not read fast enough, or one record made more than may wait. Rollbacks
    * may be among them, and fewer than `again` steps may follow one: who rebuilds a state asks `readVars` anew.
@@ -104,21 +106,41 @@ export class Refused extends Error {
 /** The client was closed, or the host says what does not read, or nothing: what was sent last may have been taken or not. */
 export class Ended extends Error {}
 
+/** An array: the number of its first cell, how many it has, and its sides, which are one where the program says none. */
+export interface ArrayNamed {
+  readonly name: string
+  readonly first: number
+  readonly count: number
+  readonly sides: number[]
+}
+
 /** What the numbers of a program stand for: a number is the place in its list. */
 export class Names {
-  constructor(names?: { vars?: string[]; inputs?: [number, string][]; outputs?: string[] })
+  constructor(names?: {
+    vars?: string[]
+    inputs?: [number, string][]
+    outputs?: string[]
+    arrays?: [string, number, number][]
+    hidden?: number[]
+  })
   readonly vars: string[]
+  readonly hidden: number[]
+  readonly told: string[]
+  readonly arrays: ArrayNamed[]
   readonly inputs: { origin: number; name: string }[]
   readonly outputs: string[]
   var(name: string | number): number
+  array(name: string): ArrayNamed
   input(name: string | number): number
   owner(input: number): number
 }
 
 export interface Watch<Push> extends AsyncIterable<Push> {
   readonly what: string
-  /** The place or number that comes next; null where there is none. */
+  /** The place or number that comes next, of cells the first; null where there is none. */
   readonly next: number | null
+  /** How many cells are watched; null where it is none. */
+  readonly count: number | null
   /** Resolved once the host answered that it is watched. */
   readonly started: Promise<{ count: number }>
   stop(): Promise<void>
@@ -167,9 +189,14 @@ export class Client {
   released(): Promise<Counted>
   releases(): Promise<Releases>
   release(index: number): Promise<({ log: number } & Row) | null>
-  breach(origin: number): Promise<{ log: number; broken: boolean }>
+  /** With "*": whether an announcement of all origins together is broken. */
+  breach(origin: number | "*"): Promise<{ log: number; broken: boolean }>
   lost(): Promise<Counted>
   counts(origin: number): Promise<Counts>
+  /** So many variables, 1 to 4,096, from a number on: cells of arrays and hidden ones too. */
+  cells(first: number, count: number): Promise<{ log: number; first: number; values: bigint[] }>
+  /** The cells of the array of this name: Float64Array where each value is a whole number that it keeps, else BigInt64Array. */
+  array(name: string): Promise<Float64Array | BigInt64Array>
   /** Up to which tag the origin's announcements are reached. */
   reached(origin: number): Promise<{ log: number; origin: number } & Tag>
   /** One number for the set of the records that the host counted, in 32 hex digits: hosts with the same records have the same. */
@@ -180,7 +207,7 @@ export class Client {
   watch<What extends keyof Pushes>(
     what: What,
     callback?: ((push: Pushes[What]) => void) | null,
-    options?: { from?: number },
+    options?: { from?: number; count?: number; array?: string },
   ): Watch<Pushes[What]>
   unwatch(watch: Watch<unknown>): Promise<void>
   /** Calls back whenever a lost connection was made again, and the host told its names. */

@@ -121,16 +121,45 @@ function callBack(callback, value) {
   }
 }
 
+const PLACED = /^(.+?)((?:\[\d+\])+)$/
+
+/** The name in front of numbers in brackets, and these: `r.board[18][32]`. */
+function placed(text) {
+  const [, name = text, numbers = ""] = PLACED.exec(text) ?? []
+  return { name, numbers: (numbers.match(/\d+/g) ?? []).map(Number) }
+}
+
+/** An array by what it is called: its sides stand behind its name, if it has so many cells. */
+function arrayOf([label, first, count]) {
+  const { name, numbers } = placed(label)
+  const isSided = numbers.length > 0 && numbers.reduce((one, other) => one * other) === count
+  return isSided ? { name, first, count, sides: numbers } : { name: label, first, count, sides: [count] }
+}
+
 /** What the numbers of a program stand for, as a host tells by `names`. */
 export class Names {
-  constructor({ vars = [], inputs = [], outputs = [] } = {}) {
+  constructor({ vars = [], inputs = [], outputs = [], arrays = [], hidden = [] } = {}) {
     this.vars = vars
+    // The numbers of the variables that `vars` leaves out, and the names of those that it tells.
+    this.hidden = hidden
+    this.told = vars.filter((_, at) => !hidden.includes(at))
+    this.arrays = arrays.map(arrayOf)
     this.inputs = inputs.map(([origin, name]) => ({ origin, name }))
     this.outputs = outputs
   }
 
+  /** The number of a variable, or of a cell: `r.board[17]`, or by its sides `r.board[0][17]`. */
   var(name) {
-    return number("variable", name, this.vars)
+    const { name: array, numbers } = placed(name)
+    const found = this.arrays.find(it => it.name === array)
+    const sides = numbers.length === 1 ? [found?.count] : found?.sides
+    const isThere = sides?.length === numbers.length && numbers.every((it, at) => it < sides[at])
+    return isThere ? numbers.reduce((sum, it, at) => sum * sides[at] + it, 0) + found.first : number("variable", name, this.vars)
+  }
+
+  /** The cells of an array: the number of the first, how many there are, and the sides of the board that they are. */
+  array(name) {
+    return this.arrays[number("array", name, this.arrays.map(it => it.name))]
   }
 
   input(name) {
@@ -188,11 +217,11 @@ const matching = form => text => {
 }
 
 const textOf = matching(/./)
-const [MOST_VARS, MOST_PORTS, MOST_PENDING] = [256, 64, 256]
+const [MOST_VARS, MOST_PORTS, MOST_PENDING, MOST_ARRAYS, MOST_VALUES, MOST_CELLS] = [1_024, 256, 256, 256, 66_560, 4_096]
 
 const PARTS = {
-  log: within(1e7), place: within(1e7, 1), events: within(1e7), withdrawn: within(1e7), rows: within(2 ** 20), watched: within(6),
-  origin: within(63), input: within(63), output: within(63), time: within(15_625_000), micro: within(255), index: within(2 ** 32 - 1),
+  log: within(1e7), place: within(1e7, 1), events: within(1e7), withdrawn: within(1e7), rows: within(2 ** 20), watched: within(7),
+  origin: within(63), input: within(255), output: within(255), time: within(15_625_000), micro: within(255), index: within(2 ** 32 - 1),
   count: within(Number.MAX_SAFE_INTEGER), number: within(99, 1), value: integer, frozen: flag, broken: flag,
   version: within(99, 1), fingerprint: matching(/^[0-9a-f]{64}$/), digits: matching(/^[0-9a-f]{32}$/),
 }
@@ -223,17 +252,23 @@ const RECORDS = {
   announce: fields("origin time micro events withdrawn"),
 }
 
+const ALL = fields("time micro events withdrawn")
+
 function recordOf([kind, ...words]) {
+  if (kind === "announce" && words[0] === "*") return { kind, origin: null, ...ALL(words.slice(1)) }
   if (!Object.hasOwn(RECORDS, kind)) throw new SyntaxError("no record")
   return { kind, ...RECORDS[kind](words) }
 }
 
 /** What a JSON text stands for, in which each number is the text that spells it: a value may have more digits than a number keeps. */
-const jsonOf = text => JSON.parse(text.replace(/([:,[])(-?\d[\d.eE+-]*)/g, '$1"$2"'))
+const jsonOf = text => JSON.parse(text.replace(/"(?:[^"\\]|\\.)*"|-?\d[\d.eE+-]*/g, it => (it[0] === '"' ? it : `"${it}"`)))
 
 function namesOf(text) {
-  const { vars, inputs, outputs } = jsonOf(text)
+  const { vars, inputs, outputs, arrays = [], hidden = [] } = jsonOf(text)
+  const [numberOf, countOf] = [within(MOST_VALUES), within(2 ** 16, 1)]
   return new Names({
+    arrays: listOf(arrays, MOST_ARRAYS, ([name, first, count]) => [textOf(name), numberOf(first), countOf(count)]),
+    hidden: listOf(hidden, MOST_VARS, numberOf),
     vars: listOf(vars, MOST_VARS, textOf),
     inputs: listOf(inputs, MOST_PORTS, ([origin, name]) => [PARTS.origin(origin), textOf(name)]),
     outputs: listOf(outputs, MOST_PORTS, textOf),
@@ -246,6 +281,7 @@ const READERS = {
   known: words => ({ ...PLACE(words), isNew: false }),
   var: fields("log value"),
   vars: ([log, ...values]) => ({ ...LOG([log]), values: listOf(values, MOST_VARS, integer) }),
+  cells: ([log, first, ...values]) => ({ ...LOG([log]), first: within(MOST_VALUES)(first), values: listOf(values, MOST_CELLS, integer) }),
   outputs: COUNTED,
   released: COUNTED,
   lost: COUNTED,
@@ -263,7 +299,7 @@ const READERS = {
   program: fields("version fingerprint"),
   names: words => namesOf(words.join(" ")),
   may: words => {
-    if (!/^(\*|read)$/.test(words)) listOf(words, MOST_PORTS, PARTS.origin)
+    if (!/^(\*|read)$/.test(words)) listOf(words, 64, PARTS.origin)
     return { may: words.join(" ") }
   },
   counts: words => {
@@ -312,7 +348,7 @@ function executedOf(text) {
     ...TAG(tag),
     given: valuesOf(given, MOST_PORTS),
     due: listOf(due, MOST_PENDING, ({ target, value }) => ({ target: textOf(target), value: integer(value) })),
-    changed: valuesOf(changed, MOST_VARS),
+    changed: valuesOf(changed, MOST_VALUES),
     outputs: valuesOf(outputs, MOST_PORTS),
     pending: within(MOST_PENDING)(pending),
   }
@@ -323,17 +359,25 @@ const PUSHES = {
   released: fields("index time micro output value"),
   frozen: words => ({ ...NOTHING(words), frozen: true }),
   vars: READERS.vars,
+  cells: READERS.cells,
   horizon: HORIZON,
-  breach: ([log, ...origins]) => ({ ...LOG([log]), origins: listOf(origins, MOST_PORTS, PARTS.origin) }),
+  breach: ([log, ...origins]) => {
+    const jointly = origins.at(-1) === "*"
+    return { ...LOG([log]), origins: listOf(jointly ? origins.slice(0, -1) : origins, 64, PARTS.origin), jointly }
+  },
   step: words => executedOf(words.join(" ")),
   skipped: fields("skipped:count"),
 }
 
 // Of these the newest push stands for those before it.
-const STATES = new Set(["vars", "horizon", "breach"])
+const STATES = new Set(["vars", "cells", "horizon", "breach"])
 // What is watched, where a push has another name.
 const SUBJECT_OF = { frozen: "released", step: "steps", skipped: "steps" }
 const SUBJECTS = [...new Set(Object.keys(PUSHES).map(it => SUBJECT_OF[it] ?? it))]
+
+// Cells by their values: Float64Array where each value is a whole number that it keeps, else BigInt64Array.
+const typed = values =>
+  values.every(it => Number.isSafeInteger(Number(it))) ? Float64Array.from(values, Number) : BigInt64Array.from(values)
 
 /** What is watched: calls back for each push, and is an async iterator over them. `stop()` ends it. */
 class Watch {
@@ -342,18 +386,28 @@ class Watch {
   #waiting = new Queue()
   #wanted = new Queue()
   #isOver = false
+  #cells = []
 
-  constructor(client, what, next, callback) {
-    /** What is watched, and the place or number that comes next; null where there is none. */
+  constructor(client, what, next, count, callback) {
+    /** What is watched, and the place or number that comes next, of cells the first; null where there is none. */
     this.what = what
     this.next = next
+    /** How many cells are watched; null where it is none. */
+    this.count = count
     this.#client = client
     this.#callback = callback
   }
 
   /** The line that begins it, or goes on with it after a lost connection. */
   get line() {
-    return this.next === null ? `watch ${this.what}` : `watch ${this.what} ${this.next}`
+    return ["watch", this.what, this.next, this.count].filter(it => it !== null).join(" ")
+  }
+
+  /** All cells that are watched, behind a push of some of them. */
+  whole({ log, first, values }) {
+    if (first === this.next && values.length >= this.#cells.length) this.#cells = values
+    else this.#cells.splice(first - this.next, values.length, ...values)
+    return { log, first: this.next, values: typed(this.#cells) }
   }
 
   /** Takes a push. */
@@ -631,13 +685,13 @@ export class Client {
     if (!Object.hasOwn(PUSHES, kind)) return
     const value = this.#read(kind, words, text)
     if (!value) return
-    if (kind === "vars") value.values.forEach((it, at) => (this.vars[this.names.vars[at] ?? at] = it))
+    if (kind === "vars") value.values.forEach((it, at) => (this.vars[this.names.told[at] ?? at] = it))
     this.#hasBrought ||= kind === "log" || kind === "released"
     const watch = this.#watches.get(SUBJECT_OF[kind] ?? kind)
     if (!watch) return
     // What is pushed may be long, and an answer waits behind it.
     this.#owed = 0
-    watch.push(value)
+    watch.push(kind === "cells" ? watch.whole(value) : value)
   }
 
   /** What a push says; where it does not read, the client closes. */
@@ -701,7 +755,7 @@ export class Client {
   async readVars() {
     await this.ready
     const { log, values } = await this.ask("vars")
-    return { log, values: Object.fromEntries(values.map((it, at) => [this.names.vars[at] ?? at, it])) }
+    return { log, values: Object.fromEntries(values.map((it, at) => [this.names.told[at] ?? at, it])) }
   }
 
   outputs() {
@@ -736,6 +790,20 @@ export class Client {
     return this.ask("lost")
   }
 
+  /** So many variables, 1 to 4,096, from a number on: cells of arrays and hidden ones too. */
+  cells(first, count) {
+    return this.ask(`cells ${first} ${count}`)
+  }
+
+  /** The cells of the array of this name, asked for in pieces: Float64Array where each value is a whole number that it keeps, else BigInt64Array. */
+  async array(name) {
+    const { first, count } = this.names.array(name)
+    const starts = Array.from({ length: Math.ceil(count / MOST_CELLS) }, (_, at) => first + at * MOST_CELLS)
+    const pieces = await Promise.all(starts.map(at => this.cells(at, Math.min(MOST_CELLS, first + count - at))))
+    const values = pieces.flatMap(it => it.values)
+    return typed(values)
+  }
+
   /** How many names of an origin have an event, how many a withdrawal, and the greatest tag of both. */
   counts(origin) {
     return this.ask(`counts ${origin}`)
@@ -764,17 +832,20 @@ export class Client {
   }
 
   /**
-   * Watches "log" or "released" (from place 1, number 0, or `from` on), "vars", "horizon", "breach", or "steps" (what
-   * the host executes from then on). Calls back for each push, and is an async iterator over them; `stop()` ends it. A
+   * Watches "log" or "released" (from place 1, number 0, or `from` on), "vars", "cells" (`count` of them, 1 to 4,096, from
+   * number `from` on, or those of an `array` by its name, once the client is ready: each push has all of them), "horizon",
+   * "breach", or "steps" (what the host executes from then on). Calls back for each push, and is an async iterator over them; `stop()` ends it. A
    * second watch of the same takes the first's place. What cannot be watched is a RangeError. Of steps some are left out,
    * as `{ skipped }` tells, where they are not read fast enough, or one record makes more than may wait: rollbacks may be
    * among them, and fewer than `again` steps may follow one.
    */
-  watch(what, callback = null, { from = { log: 1, released: 0 }[what] ?? null } = {}) {
+  watch(what, callback = null, { from = { log: 1, released: 0 }[what] ?? null, count = null, array = null } = {}) {
     number("subject of a watch", what, SUBJECTS)
-    if (from !== null && what !== "log" && what !== "released") throw new RangeError(`a watch of ${what} has no start`)
+    if (array !== null) ({ first: from, count } = this.names.array(array))
+    if (what === "cells") from = whole("from", from, MOST_VALUES), count = whole("count", count, MOST_CELLS, 1)
+    else if (count !== null || (from !== null && what !== "log" && what !== "released")) throw new RangeError(`a watch of ${what} has no start`)
     this.#watches.get(what)?.end()
-    const watch = new Watch(this, what, from, callback)
+    const watch = new Watch(this, what, from, count, callback)
     this.#watches.set(what, watch)
     /** Resolved once the host answered that it is watched. */
     watch.started = this.#put(watch.line, watch)

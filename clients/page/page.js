@@ -1,6 +1,7 @@
 // The page of a host: what its replica is doing, as it does it, and a form to send records.
 
 import { Client, Refused } from "./warpd.js"
+import { Board, boardText } from "./boards.js"
 import { MOST, Rows, fillRow, rowOfWords } from "./lists.js"
 import { Replica } from "./replica.js"
 import { answerText, orderOf, recordText, tagText } from "./tags.js"
@@ -12,12 +13,17 @@ const at = id => document.getElementById(id)
 const put = (id, text) => at(id).textContent !== text && (at(id).textContent = text)
 const replica = new Replica()
 const timeline = new Timeline(at("timeline"))
+const board = new Board(at("cells"))
+// A watch of cells has no more.
+const MOST_WATCHED = 4096
+const EVERYBODY = "*"
 const limits = { log: "", origins: 0 }
 let client
 let token
 let program
 let watches = []
 let steps = null
+let cells = null
 let isDrawn = false
 let isAsking = false
 let mayTellLate = true
@@ -26,7 +32,7 @@ const rows = {
   records: new Rows(at("records"), age => recordRow(listed().at(age))),
   released: new Rows(at("released"), age => outputRow(replica.released.at(age))),
   vars: new Rows(at("vars"), number => ({
-    words: ["", client.names.vars[number] ?? `variable ${number}`, `${replica.values[number]}`],
+    words: ["", client.names.told[number] ?? `variable ${number}`, `${replica.values[number]}`],
     kind: replica.changed.has(number) ? "new" : "",
   })),
 }
@@ -57,6 +63,7 @@ function draw() {
   rows.released.show(replica.released.length, replica.released.added)
   rows.vars.show(replica.values.length)
   drawOpen()
+  drawBoard()
   drawTimeline()
   tellLate()
   tellAgain()
@@ -85,13 +92,13 @@ function reachWords({ announced, tag, isLeast }) {
 
 function drawOrigins() {
   const body = at("origins")
-  const origins = originsNow()
+  const origins = replica.all.announced ? [...originsNow(), EVERYBODY] : originsNow()
   while (body.childElementCount > origins.length) body.lastElementChild.remove()
   while (body.childElementCount < origins.length) body.insertRow().append(...[0, 1, 2, 3].map(() => document.createElement("td")))
   origins.forEach((origin, number) => {
     const isBroken = replica.broken.has(origin)
     const inputs = client.names.inputs.filter(it => it.origin === origin).map(it => it.name)
-    const words = [`${origin}${isBroken ? ", broken" : ""}`, inputs.join(", "), ...reachWords(replica.reachOf(origin))]
+    const words = [`${origin === EVERYBODY ? "all" : origin}${isBroken ? ", broken" : ""}`, inputs.join(", "), ...reachWords(replica.reachOf(origin))]
     body.children[number].className = isBroken ? "bad" : ""
     words.forEach((word, cell) => (body.children[number].children[cell].textContent = word))
   })
@@ -104,6 +111,27 @@ function drawOpen() {
   while (list.childElementCount > shown.length) list.lastElementChild.remove()
   while (list.childElementCount < shown.length) list.append(rowOfWords())
   shown.forEach((row, number) => fillRow(list.children[number], row))
+}
+
+const boards = () => client.names.arrays.filter(it => it.sides.length === 2 && it.count <= MOST_WATCHED)
+
+/** The cells that are watched, as a board. */
+function drawBoard() {
+  const shown = boards().find(it => it.name === at("board").value)
+  if (!shown || replica.cells.length !== shown.count) return
+  board.draw(shown, replica.cells)
+  at("cells").setAttribute("aria-label", boardText(shown, replica.cells))
+}
+
+/** Watches the board that is chosen, from now on. */
+function watchBoard() {
+  cells?.stop().catch(() => {})
+  replica.cells = []
+  const array = at("board").value
+  cells = array ? client.watch("cells", push => {
+    replica.cells = push.values
+    touch()
+  }, { array }) : null
 }
 
 function drawTimeline() {
@@ -208,6 +236,9 @@ async function begin() {
     askOpen()
   }))
   watchSteps()
+  choose("board", boards().map(({ name, sides }) => [name, `${name}, ${sides.join(" by ")}`]))
+  at("boards").hidden = !at("board").value
+  watchBoard()
   choose("input", client.names.inputs.map((it, number) => [number, `${it.name} (origin ${it.origin})`]))
   askOpen()
   readLimits().catch(() => {})
@@ -225,7 +256,8 @@ async function readLimits() {
   limits.log = /^warpd_log_records_limit (\d+)/m.exec(metrics)?.[1] ?? ""
   const file = await (await fetch("program.json", { headers })).json()
   limits.origins = Number(file.origins) || 0
-  choose("origin", originsNow().map(origin => [origin, `${origin}`]))
+  const all = program?.version > 3 ? [[EVERYBODY, "all together"]] : []
+  choose("origin", [...originsNow().map(origin => [origin, `${origin}`]), ...all])
   touch()
 }
 
@@ -259,8 +291,10 @@ function warn() {
   const kind = at("kind").value
   const origin = kind === "event" ? client.names.inputs[at("input").value]?.origin : Number(at("origin").value)
   const word = kind !== "announce" && at("time").value && replica.origins.get(origin)?.announced
-  const isLate = word && orderOf({ time: at("time").value, micro: at("micro").value }, word) < 0
-  put("warning", isLate ? `Origin ${origin} announced ${tagText(word)}: this breaks its word.` : "")
+  const isLate = it => it && orderOf({ time: at("time").value, micro: at("micro").value }, it) < 0
+  const common = kind !== "announce" && at("time").value && replica.all.announced
+  const [who, tag] = isLate(word) ? [`Origin ${origin}`, word] : ["All origins together", common]
+  put("warning", isLate(tag) ? `${who} announced ${tagText(tag)}: this breaks that word.` : "")
 }
 
 function tellAnswer(text, kind = "") {
@@ -282,7 +316,7 @@ async function send(event) {
 
 function countFromLog() {
   const tag = { time: Number(at("time").value), micro: Number(at("micro").value) }
-  const counts = replica.countBefore(Number(at("origin").value), tag)
+  const counts = replica.countBefore(at("origin").value, tag)
   if (!counts) return tellAnswer(`The log is longer than the ${MOST} records that this page keeps: count elsewhere.`, "bad")
   at("events").value = counts.events
   at("withdrawn").value = counts.withdrawn
@@ -293,6 +327,7 @@ at("kind").addEventListener("change", showFields)
 at("count").addEventListener("click", countFromLog)
 at("send").addEventListener("input", touch)
 at("steps").addEventListener("change", watchSteps)
+at("board").addEventListener("change", watchBoard)
 for (const id of ["span", "words"]) at(id).addEventListener("change", touch)
 at("who").addEventListener("submit", event => {
   event.preventDefault()

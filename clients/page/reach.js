@@ -26,11 +26,11 @@ export class Reach {
   }
 
   /** A name before the tag that is reached is known, or breaks the origin's word: then it may be farther too. */
-  #takeName({ kind, time, micro }) {
+  #takeName({ kind, origin, time, micro }) {
     const tag = { time, micro }
-    const names = this.#names[kind]
-    if (this.#isBehind(tag) || names.has(tagText(tag))) return
-    names.set(tagText(tag), tag)
+    const [names, name] = [this.#names[kind], `${origin} ${tagText(tag)}`]
+    if (this.#isBehind(tag) || names.has(name)) return
+    names.set(name, tag)
     for (const word of this.#waiting) if (orderOf(tag, word.tag) < 0) word.missing[kind] -= 1
     this.#goOn()
   }

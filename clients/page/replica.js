@@ -2,7 +2,7 @@
 
 import { Last, MOST } from "./lists.js"
 import { Reach } from "./reach.js"
-import { orderOf } from "./tags.js"
+import { orderOf, tagText } from "./tags.js"
 
 const OPEN_SHOWN = 20
 
@@ -21,7 +21,7 @@ export class Replica {
     this.acts.clear()
     this.released.clear()
     Object.assign(this, { log: 0, newest: null, late: 0, lastLate: null, horizon: null, values: [], frozen: false })
-    Object.assign(this, { changed: new Set(), broken: new Set(), origins: new Map() })
+    Object.assign(this, { changed: new Set(), broken: new Set(), origins: new Map(), all: new Reach(), cells: [] })
     Object.assign(this, { outputs: 0, lost: 0, asked: [], askedFrom: 0 })
     this.clearSteps()
   }
@@ -45,8 +45,11 @@ export class Replica {
   takeRecord({ place, record }) {
     if (place !== this.log + 1) return
     this.log = place
-    if (!this.origins.has(record.origin)) this.origins.set(record.origin, new Reach())
-    this.origins.get(record.origin).take(record)
+    const { origin } = record
+    if (origin !== null && !this.origins.has(origin)) this.origins.set(origin, new Reach())
+    this.origins.get(origin)?.take(record)
+    // An announcement of all origins together counts the names of all.
+    if (origin === null || record.kind !== "announce") this.all.take(record)
     const item = { place, record, back: null }
     this.records.add(item)
     if (record.kind === "announce") return
@@ -76,8 +79,8 @@ export class Replica {
     this.horizon = { time, micro }
   }
 
-  takeBreach({ origins }) {
-    this.broken = new Set(origins)
+  takeBreach({ origins, jointly }) {
+    this.broken = new Set(jointly ? [...origins, "*"] : origins)
   }
 
   /** Asks for what is not released yet: how much it is, and the first of it; and how much was lost. */
@@ -96,20 +99,21 @@ export class Replica {
 
   /** What an origin announced, how far that is reached, and whether it may be farther: the horizon is the least of all. */
   reachOf(origin) {
-    const { announced = null, tag = null, isLost = false } = this.origins.get(origin) ?? {}
+    const { announced = null, tag = null, isLost = false } = (origin === "*" ? this.all : this.origins.get(origin)) ?? {}
     const isLeast = isLost || this.broken.has(origin)
     const isBehind = isLeast && this.horizon && (!tag || orderOf(tag, this.horizon) < 0)
     return { announced, tag: isBehind ? this.horizon : tag, isLeast }
   }
 
-  /** How many names of an origin have an event, and a withdrawal, before a tag; null where not the whole log is kept. */
+  /** How many names of an origin, or of all (`*`), have an event, and a withdrawal, before a tag; null where not the whole log is kept. */
   countBefore(origin, tag) {
     if (this.log > MOST) return null
     const names = { event: new Set(), withdraw: new Set() }
     for (let age = 0; age < this.records.length; age += 1) {
       const { record } = this.records.at(age)
-      const isCounted = record.origin === origin && record.kind in names && orderOf(record, tag) < 0
-      if (isCounted) names[record.kind].add(`${record.time}.${record.micro}`)
+      const isOf = origin === "*" || record.origin === Number(origin)
+      const isCounted = isOf && record.kind in names && orderOf(record, tag) < 0
+      if (isCounted) names[record.kind].add(`${record.origin} ${tagText(record)}`)
     }
     return { events: names.event.size, withdrawn: names.withdraw.size }
   }

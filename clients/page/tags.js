@@ -11,7 +11,7 @@ export function recordText(record, names) {
   if (record.kind === "withdraw") return `origin ${record.origin} withdraws`
   if (record.kind === "event") return `${names.inputs[record.input]?.name ?? `input ${record.input}`} = ${record.value}`
   const withdrawn = record.withdrawn ? `, ${record.withdrawn} withdrawn` : ""
-  return `origin ${record.origin} announces ${record.events} ${record.events === 1 ? "event" : "events"}${withdrawn}`
+  return `${record.origin === null ? "all origins together announce" : `origin ${record.origin} announces`} ${record.events} ${record.events === 1 ? "event" : "events"}${withdrawn}`
 }
 
 /** What an answer to a record means. */

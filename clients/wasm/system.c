@@ -121,3 +121,19 @@ u128 __lshrti3(u128 a, int n) {
     else if (n) l = l >> n | h << (64 - n), h >>= n;
     return (u128)h << 64 | l;
 }
+
+// A quotient, bit by bit: a program asks for it at a `muldiv` alone.
+u128 __udivti3(u128 a, u128 b) {
+    u64 al = a, ah = a >> 64, bl = b, bh = b >> 64, rl = 0, rh = 0;
+    for (int i = 0; i < 128; i++) {
+        u64 top = rh >> 63;
+        rh = rh << 1 | rl >> 63, rl = rl << 1 | ah >> 63, ah = ah << 1 | al >> 63, al <<= 1;
+        if (top || rh > bh || (rh == bh && rl >= bl)) rh -= bh + (rl < bl), rl -= bl, al |= 1;
+    }
+    return (u128)ah << 64 | al;
+}
+
+__int128 __divti3(__int128 a, __int128 b) {
+    u128 q = __udivti3(a < 0 ? -(u128)a : (u128)a, b < 0 ? -(u128)b : (u128)b);
+    return (a < 0) != (b < 0) ? -q : q;
+}

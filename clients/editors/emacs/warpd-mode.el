@@ -37,7 +37,7 @@
 
 (defconst warpd-font-lock
   `((,(regexp-opt '("target" "const" "import" "enum" "struct" "function" "method" "main" "reactor" "extends" "state"
-                    "input" "output" "logical" "action" "timer" "reaction" "new" "after" "let" "if" "else" "for"
+                    "input" "output" "logical" "action" "timer" "reaction" "new" "after" "let" "if" "else" "for" "while"
                     "return" "break" "continue")
                   'symbols)
      . font-lock-keyword-face)
@@ -46,7 +46,7 @@
     (,(regexp-opt '("startup" "shutdown" "true" "false" "bank_index") 'symbols) . font-lock-constant-face)
     (":[ \t]*\\(int\\|bool\\|time\\|fixed\\)\\_>" 1 font-lock-type-face)
     ("\\_<\\(?:reactor\\|new\\|extends\\|mode\\|enum\\|struct\\)[ \t]+\\([A-Za-z_][A-Za-z0-9_]*\\)" 1 font-lock-type-face)
-    ("\\_<\\(put\\|schedule\\|request_stop\\|set_mode\\|present\\|min\\|max\\|abs\\|clamp\\|floor\\|round\\|fixed\\|among\\)[ \t]*("
+    ("\\_<\\(put\\|schedule\\|request_stop\\|set_mode\\|present\\|min\\|max\\|abs\\|clamp\\|floor\\|round\\|fixed\\|among\\|mix\\|muldiv\\)[ \t]*("
      1 font-lock-builtin-face)
     ("^\\(test\\)[ \t]+\"" 1 font-lock-keyword-face)
     ("\\_<in[ \t]+every[ \t]+order\\_>" . font-lock-keyword-face)

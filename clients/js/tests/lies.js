@@ -15,10 +15,10 @@ export const NO_REPLIES = {
     "var 1 -9223372036854775809", "var 1 -0", "var 1 1.5", "var 1 1e3", "var 1 0x10", "var 1  1", "var 1 01", "var 1 1_0", "var 1 1\r", "var 1 \u0663",
     "var 1", "var 1 2 3", "", " ", "*", `var 1 ${LONG}`, `var ${LONG} 1`, "toString", "__proto__ 1",
   ],
-  vars: ["var 1 2", "vars", "vars 1 z", `vars 1${" 1".repeat(257)}`],
+  vars: ["var 1 2", "vars", "vars 1 z", `vars 1${" 1".repeat(1_025)}`],
   outputs: ["released 1 1", "outputs 1 -1", "outputs 1e23 1"], lost: ["outputs 1 1"], released: ["released 1 9007199254740992"],
   releases: ["released 1 1", "releases 1 1 2"], "release 0": ["output 1 5 0 0 3"],
-  "output 0": ["none", "row 5 0 0 3", "output 1 5 0 64 3", "output 1 15625001 0 0 3", "output 1 5 256 0 3"],
+  "output 0": ["none", "row 5 0 0 3", "output 1 5 0 256 3", "output 1 15625001 0 0 3", "output 1 5 256 0 3"],
   horizon: ["lost 1 1", "horizon 10000001 0 0", "horizon", "horizon 1 0"], "breach 0": ["breach 1 2", "board 1 0"], collect: ["taken 1"],
   "log 1": [
     "none", "log 1e23 withdraw 0 5 0", "log 1 event 64 5 0 0 3", "log 1 announce 0 5 0 10000001 0", "log 1 var 0", "log 1", "log 1 withdraw 0 5",
@@ -27,7 +27,7 @@ export const NO_REPLIES = {
   board: ["board 1000000000000000000 0", "board 1048577 0", "row 5 0 0 3"], "row 0": ["none 1", "output 1 5 0 0 3"],
   "counts 0": ["counts 1 0 1 0 5", "reached 1 0 5 0"], "reached 0": ["reached 1 64 5 0"],
   digest: ["digest 1", `digest 1 ${"0".repeat(31)}`, `digest 1 ${"A".repeat(32)}`, `digest 1 ${"0".repeat(33)}`],
-  "watch log 1": ["watching 7", "may *"], "unwatch log": ["may *"], "token T": ["may all", "watching 1", "may 64", "may 0 x"],
+  "watch log 1": ["watching 8", "may *"], "unwatch log": ["may *"], "token T": ["may all", "watching 1", "may 64", "may 0 x"],
   nonsense: ["taken 1", "nonsense 1", "constructor 1"],
 }
 
@@ -42,9 +42,9 @@ export const NO_PROGRAMS = ["program 1 abc", `program 100 ${"0".repeat(64)}`, `p
 export const NO_NAMES = [
   "taken 1", "none 0", "names", "names {", "names null", "names {}", `names ${"[".repeat(300_000)}`,
   named({}).replace("100", "Infinity"), named({}).replace('[0,"r.a"]', '[1e0,"r.a"]'), named({}).replace('[0,"r.a"]', '[-0,"r.a"]'),
-  ...[7, "r.total", { length: 1 }, [[]], [""], Array(257).fill("r.v"), Array.from({ length: 100_000 }, (_, at) => `r.v${at}`)].map(it => named({ vars: it })),
-  ...[5, [[0]], [["a", "r.a"]], [[64, "r.a"]], [[-1, "r.a"]], Array(65).fill([0, "r.a"])].map(it => named({ inputs: it })),
-  named({ outputs: Array(65).fill("r.y") }),
+  ...[7, "r.total", { length: 1 }, [[]], [""], Array(1_025).fill("r.v"), Array.from({ length: 100_000 }, (_, at) => `r.v${at}`)].map(it => named({ vars: it })),
+  ...[5, [[0]], [["a", "r.a"]], [[64, "r.a"]], [[-1, "r.a"]], Array(257).fill([0, "r.a"])].map(it => named({ inputs: it })),
+  named({ outputs: Array(257).fill("r.y") }),
 ]
 
 const STEP = { tag: [5, 0], given: {}, due: [], changed: {}, outputs: {}, pending: 0 }
@@ -54,12 +54,12 @@ const values = (/** @type {number} */ count) => Object.fromEntries(Array.from({ 
 
 export const NO_PUSHES = [
   "log 1", "log", "log x event 0 1 0 0 1", "log 0 event 0 1 0 0 1", "log 10000001 event 0 5 0 0 3", "log 1 event 0 1 0 0", "log 1 event 0 1 0 0 1.5",
-  "released", "released 0 1 0 0 y", "released 4294967296 5 0 0 3", "vars", "vars 1 z", `vars 1${" 1".repeat(257)}`, `vars 1 ${LONG}`, "horizon 0 0",
+  "released", "released 0 1 0 0 y", "released 4294967296 5 0 0 3", "vars", "vars 1 z", `vars 1${" 1".repeat(1_025)}`, `vars 1 ${LONG}`, "horizon 0 0",
   "breach 1 x", "breach 1 64", `breach 1${" 0".repeat(65)}`, "frozen 1", "skipped", "skipped -1", "skipped 1e3",
   "step", "step {", "step {}", "step 5", "step null", `step ${"[".repeat(100_000)}`, 'step {"rollback":{"from":1}}',
   'step {"rollback":{"from":[NaN,0],"to":null,"again":Infinity}}', 'step {"__proto__":{"polluted":1},"tag":[1,0]}',
   ...[5, [5], [5, 256], [-1, 0], "50", [1e20, 0]].map(tag => stepped({ tag })), stepped({}).replace("[5,0]", "[5e0,0]"),
-  ...[5, [], null, { "r.a": 0.5 }, { "r.a": "x" }, values(65)].map(given => stepped({ given })), stepped({ changed: values(257) }),
+  ...[5, [], null, { "r.a": 0.5 }, { "r.a": "x" }, values(257)].map(given => stepped({ given })), stepped({ changed: values(66_561) }),
   ...[{}, [{}], [{ target: {}, value: 2 }], Array(257).fill({ target: "r.t", value: 0 })].map(due => stepped({ due })),
   stepped({ outputs: { "r.y": null } }), stepped({ changed: { "r.x": true } }), stepped({ pending: 257 }), stepped({ pending: -1 }),
   stepped({ given: { "r.a": 7 } }).replace(":7", ":9223372036854775808"), stepped({ given: { "r.a": 7 } }).replace(":7", ":1e3"),

@@ -29,16 +29,17 @@ from itertools import combinations, islice, permutations
 from typing import BinaryIO, NamedTuple, Optional, Union
 
 from .replies import (
-    MEANINGS, MOST_ORIGINS, MOST_ROWS, MOST_ROWS_OF_3, MOST_VARIABLES, Announce, Board, Breach, Collected, Count, Counts, Ended, Entry,
-    Event, Horizon, Known, Names, Nothing, Output, Reached, Record, Refused, Row, Shape, Tag, Taken, Var, Withdraw, cut, no_reply,
+    MEANINGS, MOST_ORIGINS, MOST_ROWS, MOST_ROWS_OF_3, MOST_VALUES, Announce, AnnounceAll, Board, Breach, Cells, Collected, Count,
+    Counts, Ended, Entry, Event, Horizon, Known, Names, Nothing, Output, Reached, Record, Refused, Row, Shape, Tag, Taken, Var, Withdraw, cut, no_reply,
     record_of, reply_of, spelled,
 )
 from .wire import LONGEST, Pipes, Wire
 
 __all__ = [
-    "Announce", "Announcer", "Board", "Breach", "Broken", "Carrier", "Client", "Collected", "Count", "Counts", "Differ", "Digest", "Due", "Ended",
-    "Entry", "Event", "Frozen", "Horizon", "HostClient", "Known", "Logged", "Names", "Nothing", "Output", "Push", "Record", "Refused",
-    "Reached", "Released", "Rollback", "Row", "Shape", "Skipped", "Step", "Tag", "Taken", "Var", "Variables", "Withdraw", "carry",
+    "Announce", "AnnounceAll", "Announcer", "Board", "Breach", "Broken", "Carrier", "Cells", "Client", "Collected", "Count", "Counts", "Differ",
+    "Digest", "Due", "Ended", "Entry", "Event", "Frozen", "Horizon", "HostClient", "Known", "Logged", "Names", "Nothing", "Output", "Push",
+    "Reached", "Record", "Refused", "Released", "Rollback", "Row", "Shape", "Skipped", "Step", "Tag", "Taken", "Var", "Variables", "Withdraw",
+    "carry",
 ]
 # So many lines are sent before their replies are read: they fit into the buffers on the way, so neither side waits for the other.
 WINDOW = 256
@@ -174,8 +175,12 @@ class Client:
     def withdraw(self, *, origin: int, time: int, micro: int = 0) -> Union[Taken, Known]:
         return self.ask(Withdraw(origin, Tag(time, micro)))
 
-    def announce(self, *, origin: int, time: int, events: int, withdrawn: int = 0, micro: int = 0) -> Union[Taken, Known]:
-        return self.ask(Announce(origin, Tag(time, micro), events, withdrawn))
+    def announce(
+        self, *, origin: Union[int, str], time: int, events: int, withdrawn: int = 0, micro: int = 0
+    ) -> Union[Taken, Known]:
+        """For an origin, or with `"*"` for all of them together."""
+        tag = Tag(time, micro)
+        return self.ask(AnnounceAll(tag, events, withdrawn) if origin == "*" else Announce(origin, tag, events, withdrawn))
 
     def var(self, number: Union[int, str]) -> Var:
         return self.ask(f"var {self.names.var(number)}")
@@ -195,7 +200,8 @@ class Client:
     def lost(self) -> Count:
         return self.ask("lost")
 
-    def breach(self, origin: int) -> Breach:
+    def breach(self, origin: Union[int, str]) -> Breach:
+        """Whether an origin is broken, or with `"*"` an announcement of all of them."""
         return self.ask(f"breach {origin}")
 
     def log(self, place: int) -> Optional[Entry]:
@@ -228,7 +234,7 @@ class Client:
         # A program of version 1 has no line for its origin 32.
         with self._wire.call():
             narrow = self._refusal(f"breach {MOST_ORIGINS - 1}") == 1
-            return Shape(narrow, self._first_refused("breach", MOST_ORIGINS), self._first_refused("var", MOST_VARIABLES))
+            return Shape(narrow, self._first_refused("breach", MOST_ORIGINS), self._first_refused("var", MOST_VALUES))
 
     def _first_refused(self, word: str, end: int) -> int:
         """The least number below the end with which a query is refused, or the end. All greater ones are refused too."""

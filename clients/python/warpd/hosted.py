@@ -13,10 +13,10 @@ from collections import deque
 from collections.abc import Callable, Iterator
 from typing import NamedTuple, Optional, TypeVar, Union
 
-from . import Client, Counts, Ended, Horizon, Names, Output, Reached, Record, Tag, cut, record_of, reply_of
+from . import Cells, Client, Counts, Ended, Horizon, Names, Output, Reached, Record, Tag, cut, record_of, reply_of
 from .replies import (
-    COUNT, FLAG, LOG, MICRO, MOST_ORIGINS, MOST_PORTS, MOST_VARIABLES, NUMBER, ORIGIN, PLACE, PORT, TIME, VALUE, json_of, no_reply,
-    number_of, numbers_of,
+    COUNT, FLAG, LOG, MICRO, MOST_CELLS, MOST_ORIGINS, MOST_PORTS, MOST_VALUES, MOST_VARIABLES, NUMBER, ORIGIN, PLACE, PORT, TIME,
+    VALUE, json_of, no_reply, number_of, numbers_of,
 )
 
 Answer = TypeVar("Answer")
@@ -27,7 +27,7 @@ DIGEST = re.compile(r"[0-9a-f]{32}", re.ASCII)
 # What reading a text raises that is not of its form.
 MALFORMED = (AttributeError, KeyError, IndexError, TypeError, ValueError, RecursionError)
 # What can be watched, and where it begins where no place is given.
-SUBJECTS = {"log": 1, "released": 0, "vars": None, "horizon": None, "breach": None, "steps": None}
+SUBJECTS = {"log": 1, "released": 0, "vars": None, "cells": None, "horizon": None, "breach": None, "steps": None}
 
 
 class Program(NamedTuple):
@@ -80,10 +80,11 @@ class Frozen(NamedTuple):
 
 
 class Broken(NamedTuple):
-    """A push: the broken origins."""
+    """A push: the broken origins, and whether an announcement of all origins together is."""
 
     log: int
     origins: tuple[int, ...]
+    jointly: bool = False
 
 
 class Due(NamedTuple):
@@ -122,7 +123,7 @@ class Skipped(NamedTuple):
     count: int
 
 
-Push = Union[Logged, Released, Frozen, Variables, Horizon, Broken, Step, Rollback, Skipped]
+Push = Union[Logged, Released, Frozen, Variables, Cells, Horizon, Broken, Step, Rollback, Skipped]
 
 
 def _subject(what: str) -> str:
@@ -142,7 +143,17 @@ def _start_of(what: str, start: Optional[int]) -> Optional[int]:
     return start
 
 
-def _watch_line(what: str, place: Optional[int]) -> str:
+def _range_of(names: Names, start: Union[int, str, tuple[int, int], None]) -> str:
+    """The cells that are to be watched, as words; a ValueError where none are named."""
+    if isinstance(start, str):
+        start = names.array(start)
+    if not isinstance(start, tuple):
+        raise ValueError("the cells to watch are an array by its name, or the number of the first and how many: (0, 9)")
+    first, count = start
+    return f"{first} {count}"
+
+
+def _watch_line(what: str, place: Union[int, str, None]) -> str:
     return f"watch {what}" if place is None else f"watch {what} {place}"
 
 
@@ -182,7 +193,7 @@ def _step_of(told: dict) -> Union[Step, Rollback]:
     if not _is_number(told["pending"], MOST_PENDING):
         raise ValueError(told)
     given, changed, outputs = (_values_of(told[key], most) for key, most in
-                               (("given", MOST_PORTS), ("changed", MOST_VARIABLES), ("outputs", MOST_PORTS)))
+                               (("given", MOST_PORTS), ("changed", MOST_VALUES), ("outputs", MOST_PORTS)))
     return Step(_tag_of(told["tag"]), given, _due_of(told["due"]), changed, outputs, told["pending"])
 
 
@@ -197,8 +208,10 @@ def _horizon_of(words: list[str]) -> Horizon:
 
 
 def _broken_of(words: list[str]) -> Broken:
+    jointly = words[1:] != [] and words[-1] == "*"
+    words = words[:-1] if jointly else words
     log, *origins = numbers_of(words, LOG, *[ORIGIN] * min(len(words) - 1, MOST_ORIGINS))
-    return Broken(log, tuple(origins))
+    return Broken(log, tuple(origins), jointly)
 
 
 # What each push says behind its first word, and of what it tells.
@@ -207,6 +220,7 @@ PUSHES: dict[str, tuple[str, Callable[[list[str]], Push]]] = {
     "released": ("released", _released_of),
     "frozen": ("released", lambda words: Frozen(*words)),
     "vars": ("vars", lambda words: _variables_of(" ".join(words))),
+    "cells": ("cells", lambda words: _cells_of(" ".join(words))),
     "horizon": ("horizon", _horizon_of),
     "breach": ("breach", _broken_of),
     "step": ("steps", lambda words: _step_of(json_of(" ".join(words)))),
@@ -236,6 +250,12 @@ def _variables_of(text: str) -> Variables:
     return Variables(log, tuple(values))
 
 
+def _cells_of(text: str) -> Cells:
+    words = text.split(" ")
+    log, first, *values = numbers_of(words, LOG, NUMBER, *[VALUE] * min(len(words) - 2, MOST_CELLS))
+    return Cells(log, first, tuple(values))
+
+
 def _releases_of(text: str) -> Releases:
     log, count, frozen = numbers_of(text.split(" "), LOG, COUNT, FLAG)
     return Releases(log, count, bool(frozen))
@@ -246,6 +266,15 @@ def _digest_of(text: str) -> Digest:
     if not DIGEST.fullmatch(digits):
         raise ValueError(digits)
     return Digest(number_of(log, LOG), digits)
+
+
+def _with_cells(kept: Optional[Cells], some: Cells) -> Cells:
+    """All cells that are watched, behind a push of some of them."""
+    if kept is None or (some.first == kept.first and len(some.values) >= len(kept.values)):
+        return some
+    values = list(kept.values)
+    values[some.first - kept.first:some.first - kept.first + len(some.values)] = some.values
+    return Cells(some.log, kept.first, tuple(values))
 
 
 def _taken_from(waiting: deque[Push]) -> list[Push]:
@@ -263,7 +292,8 @@ class HostClient(Client):
         """Connects, says the token, if there is one, and asks for the names. A refused token is a `Refused`."""
         self._token = token
         self._waiting: dict[str, deque[Push]] = {}
-        self._next: dict[str, Optional[int]] = {}
+        self._next: dict[str, Union[int, str, None]] = {}
+        self._cells: Optional[Cells] = None
         super().__init__(host, port, timeout)
 
     def _connect(self) -> None:
@@ -296,6 +326,8 @@ class HostClient(Client):
         if found is None:
             return
         what, push = found
+        if isinstance(push, Cells):
+            push = self._cells = _with_cells(self._cells, push)
         if what in self._waiting:
             self._waiting[what].append(push)
             if isinstance(push, (Logged, Released)):
@@ -313,7 +345,7 @@ class HostClient(Client):
 
     def _told(self, line: str, meaning: Callable[[str], Answer]) -> Answer:
         """What the reply to one line means behind its first word; the client is closed where it means nothing."""
-        text = self._word(line, line)
+        text = self._word(line, line.partition(" ")[0])
         try:
             return meaning(text.partition(" ")[2])
         except MALFORMED:
@@ -325,6 +357,16 @@ class HostClient(Client):
 
     def vars(self) -> Variables:
         return self._told("vars", _variables_of)
+
+    def cells(self, first: Union[int, str], count: Optional[int] = None) -> Cells:
+        """So many variables, 1 to 4,096, from a number on, cells of arrays and hidden ones too; or all cells of the array of this name, which
+        are asked for in pieces, each at its length of the log."""
+        if isinstance(first, str):
+            first, count = self.names.array(first)
+        if count is None:
+            raise ValueError("how many cells are wanted?")
+        pieces = [self._told(f"cells {at} {min(MOST_CELLS, first + count - at)}", _cells_of) for at in range(first, first + count, MOST_CELLS)]
+        return Cells(pieces[-1].log, first, tuple(value for piece in pieces for value in piece.values))
 
     def releases(self) -> Releases:
         return self._told("releases", _releases_of)
@@ -345,14 +387,17 @@ class HostClient(Client):
         """One number for the set of the records that the host counted: hosts with the same records have the same."""
         return self._told("digest", _digest_of)
 
-    def watch(self, what: str, start: Optional[int] = None) -> Iterator[Push]:
-        """Watches "log" or "released" (from `start` on, or from the first), "vars", "horizon", "breach", or "steps" (what
+    def watch(self, what: str, start: Union[int, str, tuple[int, int], None] = None) -> Iterator[Push]:
+        """Watches "log" or "released" (from `start` on, or from the first), "vars", "cells" (`start` is the name of an array, or
+        the number of the first and how many, at most 4,096; each push has all of them), "horizon", "breach", or "steps" (what
         the host executes from then on), and gives each push. The next one is waited for without an end; `pushed` has what
         came without waiting. What is not taken waits in memory, up to `unwatch`. Watching the same again begins anew; where
         that is refused, the watch that was there goes on. A start for what has none is a ValueError."""
-        place = _start_of(what, start)
+        place = _range_of(self.names, start) if what == "cells" else _start_of(what, start)
         # Up to the answer pushes are those of the watch that was there; it goes on where this one is refused.
         self._word(_watch_line(what, place), "watching")
+        if what == "cells":
+            self._cells = None
         self._waiting[what], self._next[what] = deque(), place
         return self._pushes(what, self._waiting[what])
 

@@ -8,6 +8,8 @@ import difflib
 import json
 import re
 from collections.abc import Callable, Sequence
+from functools import reduce
+from math import prod
 from os import PathLike
 from typing import NamedTuple, NoReturn, Optional, Union
 
@@ -18,10 +20,14 @@ MEANINGS = {
     11: "there is no board: only a server has one", 13: "this client may not send that", 14: "the journal cannot be written",
 }
 # No program has more, of any version.
-MOST_ORIGINS, MOST_VARIABLES, MOST_PORTS = 64, 256, 64
+MOST_ORIGINS, MOST_VARIABLES, MOST_PORTS = 64, 1_024, 256
+# With the cells of its arrays, of which it has so many; and how many variables one `cells` tells.
+MOST_ARRAYS, MOST_VALUES, MOST_CELLS = 256, 66_560, 4_096
 MOST_NAMES = {"vars": MOST_VARIABLES, "inputs": MOST_PORTS, "outputs": MOST_PORTS}
 # A board takes no more rows: of a program of version 3, and of one before.
 MOST_ROWS_OF_3, MOST_ROWS = 1_048_576, 4_096
+# A name with numbers in brackets behind it.
+PLACED, NUMERAL = re.compile(r"(.+?)((?:\[[0-9]+\])+)"), re.compile(r"[0-9]+")
 # Of what is no reply an error shows so many letters.
 SHOWN = 200
 # From where to where the numbers of replies go.
@@ -88,7 +94,19 @@ class Announce(NamedTuple):
         return f"announce {self.origin} {self.tag.time} {self.tag.micro} {self.events} {self.withdrawn}"
 
 
-Record = Union[Event, Withdraw, Announce]
+class AnnounceAll(NamedTuple):
+    """Before this tag all origins together have so many names with an event, and with a withdrawal, and will add none. Programs of
+    version 4 alone take it."""
+
+    tag: Tag
+    events: int
+    withdrawn: int
+
+    def __str__(self) -> str:
+        return f"announce * {self.tag.time} {self.tag.micro} {self.events} {self.withdrawn}"
+
+
+Record = Union[Event, Withdraw, Announce, AnnounceAll]
 
 
 class Taken(NamedTuple):
@@ -156,6 +174,14 @@ class Counts(NamedTuple):
     last: Tag
 
 
+class Cells(NamedTuple):
+    """Variables from this number on, cells of arrays among them, at one length of the log."""
+
+    log: int
+    first: int
+    values: tuple[int, ...]
+
+
 class Reached(NamedTuple):
     """Up to which tag the announcements of an origin are reached."""
 
@@ -189,6 +215,18 @@ class Shape(NamedTuple):
         return f"version {'1' if self.narrow else '2+'} origins {self.origins} variables {self.variables}"
 
 
+def _placed(text: str) -> tuple[str, tuple[int, ...]]:
+    """The name in front of numbers in brackets, and these: `r.board[18][32]`."""
+    found = PLACED.fullmatch(text)
+    return (found[1], tuple(map(int, NUMERAL.findall(found[2])))) if found else (text, ())
+
+
+def _sided(label: str, count: int) -> tuple[str, tuple[int, ...]]:
+    """An array's name and its sides, which stand behind it in what it is called, if it has so many cells."""
+    name, sides = _placed(label)
+    return (name, sides) if sides and prod(sides) == count else (label, (count,))
+
+
 class Names(NamedTuple):
     """What the numbers of a program stand for, as `warpd-compile` writes it to FILE.names.json: a number is the place in
     its list. An input has the origin that owns it beside its name."""
@@ -196,6 +234,9 @@ class Names(NamedTuple):
     vars: Sequence[str]
     inputs: Sequence[tuple[int, str]]
     outputs: Sequence[str]
+    # Each array with the number of its first cell, and how many it has; and the numbers of the variables that `vars` leaves out.
+    arrays: Sequence[tuple[str, int, int]] = ()
+    hidden: Sequence[int] = ()
 
     @classmethod
     def read(cls, path: Union[str, PathLike]) -> Names:
@@ -208,19 +249,55 @@ class Names(NamedTuple):
         """Those of such a text. One that is none, or has more names than a program, is a ValueError."""
         try:
             told = json_of(text)
-            made = cls(told["vars"], [(origin, name) for origin, name in told["inputs"]], told["outputs"])
+            arrays = [(name, first, count) for name, first, count in told.get("arrays", [])]
+            inputs = [(origin, name) for origin, name in told["inputs"]]
+            made = cls(told["vars"], inputs, told["outputs"], arrays, told.get("hidden", []))
         except (KeyError, TypeError, ValueError, RecursionError):
             raise ValueError(f"no names: {cut(text)}") from None
         are_lists = all(isinstance(told[key], list) and len(told[key]) <= most for key, most in MOST_NAMES.items())
-        names = (*made.vars, *made.outputs, *(name for _, name in made.inputs))
+        are_lists = are_lists and all(isinstance(told.get(key, []), list) for key in ("arrays", "hidden"))
+        names = (*made.vars, *made.outputs, *(name for _, name in made.inputs), *(name for name, *_ in made.arrays))
+        numbers = (*made.hidden, *(it for _, *cells in made.arrays for it in cells))
         are_origins = all(type(origin) is int and 0 <= origin < MOST_ORIGINS for origin, _ in made.inputs)
-        if not are_lists or not are_origins or not all(isinstance(it, str) for it in names):
+        are_few = len(made.arrays) <= MOST_ARRAYS and all(type(it) is int and 0 <= it <= MOST_VALUES for it in numbers)
+        if not are_lists or not are_origins or not are_few or not all(isinstance(it, str) for it in names):
             raise ValueError(f"no names: {cut(text)}")
         return made
 
     def var(self, name: Union[int, str]) -> int:
         """The number of a variable; a number is its own. What none is called is a KeyError that tells the nearest."""
-        return name if isinstance(name, int) else self._place("variable", name, self.vars)
+        if isinstance(name, int):
+            return name
+        array, cell = _placed(name)
+        for label, first, count in self.arrays:
+            known, sides = _sided(label, count)
+            within = (count,) if len(cell) == 1 else sides
+            if known == array and len(cell) == len(within) and all(it < side for it, side in zip(cell, within)):
+                return first + reduce(lambda at, it: at * it[1] + it[0], zip(cell, within), 0)
+        return self._place("variable", name, self.vars)
+
+    def array(self, name: str) -> tuple[int, int]:
+        """The number of the first cell of an array, and how many it has."""
+        _, first, count = self._array(name)
+        return first, count
+
+    def sides(self, name: str) -> tuple[int, ...]:
+        """The sides of the board that an array is: one, where the program says none."""
+        label, _, count = self._array(name)
+        return _sided(label, count)[1]
+
+    @property
+    def told(self) -> list[str]:
+        """The names of the variables that `vars` tells, in its order: all but the hidden ones."""
+        hidden = {*self.hidden}
+        return [name for number, name in enumerate(self.vars) if number not in hidden]
+
+    def _array(self, name: str) -> tuple[str, int, int]:
+        labelled = [it for it in self.arrays if it[0] == name]
+        if labelled:
+            return labelled[0]
+        names = [_sided(label, count)[0] for label, _, count in self.arrays]
+        return self.arrays[self._place("array", name, names)]
 
     def input(self, name: Union[int, str]) -> int:
         """The number of an input, in the same way."""
@@ -295,6 +372,9 @@ def record_of(words: Sequence[str]) -> Record:
     """The record whose words these are; what is none is a ValueError."""
     if not words or words[0] not in RECORDS:
         raise ValueError(f"no record: {cut(' '.join(words[:1]))}")
+    if words[:2] == ["announce", "*"]:
+        time, micro, events, withdrawn = numbers_of(words[2:], TIME, MICRO, NAMES, NAMES)
+        return AnnounceAll(Tag(time, micro), events, withdrawn)
     ranges, make = RECORDS[words[0]]
     return make(*numbers_of(words[1:], *ranges))
 

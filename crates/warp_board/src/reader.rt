@@ -61,12 +61,12 @@ impl Reader {
         board.table.shared.load::<LoadFlag>(&mut self.seat, 1) == 1
     }
 
-    /// Row i, counted from 0; `None` exactly where i is not below the count that the reader knows. Its port is 0 to 63.
+    /// Row i, counted from 0; `None` exactly where i is not below the count that the reader knows. Its port is 0 to 255.
     pub fn row(&mut self, board: &Board, i: u64) -> Option<Out>
         requires { self.old.board ≡ board.now }
         ensures row { result ≡ slice_get self.old.rows i }
         ensures none { IsNone result ↔ (length self.old.rows ≤ i) }
-        ensures port { IfSome result (λ row. row.port < most_outputs) }
+        ensures port { IfSome result (λ row. row.port < most_outputs widest) }
         ensures same { self.new ≡ self.old }
     {
         if i >= self.count {

@@ -1,6 +1,6 @@
 //! Spelled rows, a full board, and a writer that two readers follow from threads of their own.
 ghost use Rattle.std.specs.Prelude.{◌≡◌, ◌<◌, IfSome};
-ghost use Rattle.warp_tag.specs.Limits.{most_outputs};
+ghost use Rattle.warp_tag.specs.Limits.{most_outputs, widest};
 
 use crate::{
     Board, Full, PORTS, Reader, Writer, board, join_readers, meet, read_row, spell_row,
@@ -14,7 +14,7 @@ use warp_tag::{Out, Tag};
 
 fn out(time: u64, micro: u32, port: u32, value: i64) -> Option<Out>
     requires { port < PORTS }
-    ensures { IfSome result (λ row. row.port < most_outputs) }
+    ensures { IfSome result (λ row. row.port < most_outputs widest) }
 {
     let tag = Tag::new(time, micro)?;
     Some(Out { tag, port, value })
@@ -25,7 +25,7 @@ fn spells_and_reads_rows(rt: HostRuntime) -> Result<(), Fail> {
     let rows = [
         (out(2, 1, 3, -5), (131_331, 18_446_744_073_709_551_611)),
         (out(5, 0, 0, 3), (327_680, 3)),
-        (out(5, 255, 63, 3), (393_023, 3)),
+        (out(5, 255, 255, 3), (393_215, 3)),
         (out(10_000_001, 255, 0, 3), (655_360_130_816, 3)),
         (out(15_625_000, 255, 0, 3), (1_024_000_065_280, 3)),
     ];
@@ -37,8 +37,8 @@ fn spells_and_reads_rows(rt: HostRuntime) -> Result<(), Fail> {
     assert_eq!(rt; spell_row(first), (131_331, 18_446_744_073_709_551_611));
     let second = out(5, 0, 0, 3).ok_or("no tag")?;
     assert_eq!(rt; spell_row(second), (327_680, 3));
-    // Port 64, and a time past the last.
-    for word in [327_744, 1_024_000_065_536] {
+    // Times past the last.
+    for word in [1_024_000_065_536, 1_024_000_131_072] {
         assert_eq!(rt; read_row(word, 3), None, "at {word}");
     }
     Ok(())
@@ -67,7 +67,7 @@ const ROWS: u64 = 1000;
 
 // The row that the writer of the test below puts at this place.
 fn row_at(place: u64) -> Option<Out>
-    ensures { IfSome result (λ row. row.port < most_outputs) }
+    ensures { IfSome result (λ row. row.port < most_outputs widest) }
 {
     out(
         place,

@@ -1,6 +1,6 @@
 //! The one writer of a board.
 ghost use Rattle.std.specs.Prelude.{◌≡◌, ◌<◌, ◌≤◌, ◌++◌, [], ◌∷◌, true, IsOk, IsErr, OnOk, OnErr, ◌↔◌, length};
-ghost use Rattle.warp_tag.specs.Limits.{most_outputs};
+ghost use Rattle.warp_tag.specs.Limits.{most_outputs, widest};
 ghost use Rattle.warp_tag.specs.Lists.{StartsWith};
 ghost use Rattle.warp_board.specs.Board.{room_of};
 ghost use Rattle.warp_board.specs.Notes.{at_rest};
@@ -43,10 +43,10 @@ impl Model for Writer {
 }
 
 impl Writer {
-    /// Appends the row, whose port is 0 to 63; `Full`, with nothing changed, exactly where the board has no room left.
+    /// Appends the row, whose port is 0 to 255; `Full`, with nothing changed, exactly where the board has no room left.
     pub fn append(&mut self, board: &Board, row: Out) -> Result<(), Full>
         requires board { self.old.board ≡ board.now }
-        requires port { row.port < most_outputs }
+        requires port { row.port < most_outputs widest }
         ensures ok { OnOk result (self.new ≡ record self.old { rows = self.old.rows ++ row ∷ [] }) }
         ensures err { OnErr result (self.new ≡ self.old) }
         ensures full { IsErr result ↔ (length self.old.rows ≡ room_of board.now) }
@@ -92,7 +92,7 @@ fn store_row(board: &Board, seat: &mut Seat, count: usize, row: &Out)
         seat.old.me ≡ (at_rest true (room_of board.now) notes.rows notes.frozen, []) }
     requires count { count ≡ length seat.old.me.0.rows }
     requires room { count < room_of board.now }
-    requires port { row.now.port < most_outputs }
+    requires port { row.now.port < most_outputs widest }
     ensures board { seat.new.table_id ≡ board.now }
     ensures row { let notes = seat.old.me.0 in
         seat.new.me ≡ (at_rest true (room_of board.now) (notes.rows ++ row.now ∷ []) notes.frozen, []) }

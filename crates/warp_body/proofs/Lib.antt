@@ -1,7 +1,9 @@
 pub mod Bodies
+pub mod CellLemmas
 pub mod CompileLemmas
 pub mod DivisorLemmas
 pub mod FormLemmas
 pub mod MachineLemmas
 pub mod SlotLemmas
 pub mod Terms
+pub mod Turns

@@ -3,6 +3,7 @@ use Rattle.std.proofs.Common.{Option, subst, sym, ◌==◌, ◌&&◌, nat_lt, �
 use Rattle.std.proofs.lemmas.Bool.Decides.{nat_tests}
 use Rattle.std.proofs.lemmas.List.{map-set, length-map}
 use Rattle.std.specs.List.{list_all}
+use Rattle.warp_tag.specs.Moment.{Moment}
 use Rattle.warp_body.specs.declared.slots.Slot.{Slot}
 use Rattle.warp_body.specs.inner.Slots.{empty, slot, slots, are_past, presence_at}
 use Rattle.warp_body.specs.Presence.{places_of, nothing_present, are_sources}
@@ -66,23 +67,23 @@ none_as_many : (m n : ℕ) (ps : List Slot) → IsTrue (are_past m ps) → m < n
 none_as_many m n ps h lt = slots_later m n ps h lt ∙ ap (λ (k : ℕ). replicate k None) (sym (length-map ps (slot m)))
 
 -- and nothing is present
-pub none_later : (m n : ℕ) (startup : Slot) (timers actions ports : List Slot) (sources : List ℕ)
+pub none_later : (tag : Moment) (m n : ℕ) (startup : Slot) (timers actions ports : List Slot) (sources : List ℕ)
     → IsTrue (nat_le startup.stamp m) → IsTrue (are_past m timers) → IsTrue (are_past m actions) → IsTrue (are_past m ports) → m < n
-    → presence_at n startup timers actions ports sources ≡ nothing_present (places_of (presence_at m startup timers actions ports sources)) sources
-none_later m n startup timers actions ports sources hs ht ha hp lt =
+    → presence_at tag n startup timers actions ports sources ≡ nothing_present tag (places_of (presence_at tag m startup timers actions ports sources)) sources
+none_later tag m n startup timers actions ports sources hs ht ha hp lt =
     let s = slot_past m n startup hs lt in
     let t = none_as_many m n timers ht lt in
     let a = none_as_many m n actions ha lt in
     let p = none_as_many m n ports hp lt in
-    λ i. record { startup = s i; timers = t i; actions = a i; ports = p i; sources = sources }
+    λ i. record { tag = tag; startup = s i; timers = t i; actions = a i; ports = p i; sources = sources }
 
 -- and in empty places neither
-pub none_empty : (nt na np : ℕ) (startup : Slot) (timers actions ports : List Slot) (sources : List ℕ)
+pub none_empty : (tag : Moment) (nt na np : ℕ) (startup : Slot) (timers actions ports : List Slot) (sources : List ℕ)
     → startup ≡ empty → timers ≡ replicate nt empty → actions ≡ replicate na empty → ports ≡ replicate np empty
-    → presence_at 1 startup timers actions ports sources ≡ nothing_present (record { timers = nt; actions = na; ports = np }) sources
-none_empty nt na np startup timers actions ports sources es et ea ep =
+    → presence_at tag 1 startup timers actions ports sources ≡ nothing_present tag (record { timers = nt; actions = na; ports = np }) sources
+none_empty tag nt na np startup timers actions ports sources es et ea ep =
     let s : slot 1 startup ≡ None = ap (slot 1) es in
     let t = slots_emptied nt timers et in
     let a = slots_emptied na actions ea in
     let p = slots_emptied np ports ep in
-    λ i. record { startup = s i; timers = t i; actions = a i; ports = p i; sources = sources }
+    λ i. record { tag = tag; startup = s i; timers = t i; actions = a i; ports = p i; sources = sources }

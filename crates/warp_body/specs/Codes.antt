@@ -4,14 +4,14 @@ use Rattle.std.specs.Prelude.{◌≡◌, ℕ, ℤ, pos, List, [], ◌∷◌, ◌
 use Rattle.std.specs.Coded.{Coded, code_by, coded×, coded_ℕ, coded_ℤ, coded_list}
 use Rattle.std.proofs.Common.{◌∙◌, ap}
 use Rattle.warp_body.specs.Presence.{kind_of, number_of}
-use Rattle.warp_body.specs.Term.{Term, Constant, VariableAt, ValueAt, PresentAt, OfOne, OfTwo, Choice}
-use Rattle.warp_body.specs.Effect.{Statement, SetVariable, PutOutput, ScheduleAction, Choose, Body, Done, Then}
+use Rattle.warp_body.specs.Term.{Term, Constant, VariableAt, ValueAt, PresentAt, OfOne, OfTwo, Choice, ProductOver, CellAt, TimeNow, MicrostepNow}
+use Rattle.warp_body.specs.Effect.{Statement, SetVariable, PutOutput, ScheduleAction, Choose, SetCell, Repeat, Body, Done, Then}
 use Rattle.warp_body.specs.declared.place.Target.{Target}
 use Rattle.warp_body.specs.declared.place.Target.TheVariants.{Startup, Timer, Action, Port}
 use Rattle.warp_body.specs.declared.operator.UnaryOperator.{UnaryOperator}
-use Rattle.warp_body.specs.declared.operator.UnaryOperator.TheVariants.{Negate, Not}
+use Rattle.warp_body.specs.declared.operator.UnaryOperator.TheVariants.{Negate, Not, Absolute}
 use Rattle.warp_body.specs.declared.operator.BinaryOperator.{BinaryOperator}
-use Rattle.warp_body.specs.declared.operator.BinaryOperator.TheVariants.{Add, Subtract, Multiply, Divide, Remainder, Equal, Less, And, Or}
+use Rattle.warp_body.specs.declared.operator.BinaryOperator.TheVariants.{Add, Subtract, Multiply, Divide, Remainder, Equal, Less, And, Or, Minimum, Maximum, BitAnd, BitOr, BitXor, ShiftLeft, ShiftRight, Mix}
 
 -- the target of this kind with this number
 abbrev pub target_at : ℕ → ℕ → Target
@@ -32,6 +32,7 @@ target_code = code_by (ℕ × ℕ) (coded× coded_ℕ coded_ℕ) (λ t. (kind_of
 abbrev pub unary_number : UnaryOperator → ℕ
 unary_number Negate = 0
 unary_number Not = 1
+unary_number Absolute = 2
 
 -- the place of an operator among those of two operands
 abbrev pub binary_number : BinaryOperator → ℕ
@@ -44,21 +45,33 @@ binary_number Equal = 5
 binary_number Less = 6
 binary_number And = 7
 binary_number Or = 8
+binary_number Minimum = 9
+binary_number Maximum = 10
+binary_number BitAnd = 11
+binary_number BitOr = 12
+binary_number BitXor = 13
+binary_number ShiftLeft = 14
+binary_number ShiftRight = 15
+binary_number Mix = 16
 
 -- the operator of one operand at this place
 abbrev pub unary_at : ℕ → UnaryOperator
-unary_at n = if n == 0 then Negate else Not
+unary_at n = if n == 0 then Negate else (if n == 1 then Not else Absolute)
 
 -- the operator of two operands at this place
 abbrev pub binary_at : ℕ → BinaryOperator
 binary_at n =
     if n == 0 then Add else (if n == 1 then Subtract else (if n == 2 then Multiply else (if n == 3 then Divide else
-    (if n == 4 then Remainder else (if n == 5 then Equal else (if n == 6 then Less else (if n == 7 then And else Or)))))))
+    (if n == 4 then Remainder else (if n == 5 then Equal else (if n == 6 then Less else (if n == 7 then And else
+    (if n == 8 then Or else (if n == 9 then Minimum else (if n == 10 then Maximum else (if n == 11 then BitAnd else
+    (if n == 12 then BitOr else (if n == 13 then BitXor else (if n == 14 then ShiftLeft else
+    (if n == 15 then ShiftRight else Mix)))))))))))))))
 
 -- an operator is the one at its own place
 pub unary_at-own : (o : UnaryOperator) → unary_at (unary_number o) ≡ o
 unary_at-own Negate = refl
 unary_at-own Not = refl
+unary_at-own Absolute = refl
 
 -- and so is one of two operands
 pub binary_at-own : (o : BinaryOperator) → binary_at (binary_number o) ≡ o
@@ -71,6 +84,14 @@ binary_at-own Equal = refl
 binary_at-own Less = refl
 binary_at-own And = refl
 binary_at-own Or = refl
+binary_at-own Minimum = refl
+binary_at-own Maximum = refl
+binary_at-own BitAnd = refl
+binary_at-own BitOr = refl
+binary_at-own BitXor = refl
+binary_at-own ShiftLeft = refl
+binary_at-own ShiftRight = refl
+binary_at-own Mix = refl
 
 -- one node of an expression or a body: its kind, two numbers (of a place, its kind, an operator or a delay), and a number
 abbrev pub Mark : Type 0
@@ -89,6 +110,10 @@ spelled (PresentAt target) rest = mark 3 (kind_of target) (number_of target) ∷
 spelled (OfOne o a) rest = spelled a (mark 4 (unary_number o) 0 ∷ rest)
 spelled (OfTwo o a b) rest = spelled a (spelled b (mark 5 (binary_number o) 0 ∷ rest))
 spelled (Choice c a b) rest = spelled c (spelled a (spelled b (mark 6 0 0 ∷ rest)))
+spelled (ProductOver a b c) rest = spelled a (spelled b (spelled c (mark 15 0 0 ∷ rest)))
+spelled (CellAt first count index) rest = spelled index (mark 12 first count ∷ rest)
+spelled TimeNow rest = mark 16 0 0 ∷ rest
+spelled MicrostepNow rest = mark 17 0 0 ∷ rest
 
 -- the same of a statement and of a body, whose last statements come first
 abbrev mutual
@@ -97,6 +122,8 @@ abbrev mutual
   spelled_one (PutOutput port e) rest = spelled e (mark 9 port 0 ∷ rest)
   spelled_one (ScheduleAction action delay e) rest = spelled e (mark 10 action delay ∷ rest)
   spelled_one (Choose e first second) rest = spelled e (spelled_body first (spelled_body second (mark 11 0 0 ∷ rest)))
+  spelled_one (SetCell first count index e) rest = spelled index (spelled e (mark 13 first count ∷ rest))
+  spelled_one (Repeat most e body) rest = spelled e (spelled_body body (mark 14 most 0 ∷ rest))
 
   pub spelled_body : Body → List Mark → List Mark
   spelled_body Done rest = mark 7 0 0 ∷ rest
@@ -133,6 +160,18 @@ choice_of_newest (b ∷ []) = []
 choice_of_newest (b ∷ (a ∷ [])) = []
 choice_of_newest (b ∷ (a ∷ (c ∷ ts))) = Choice c a b ∷ ts
 
+-- and as a product over a divisor
+abbrev pub product_of_newest : List Term → List Term
+product_of_newest [] = []
+product_of_newest (c ∷ []) = []
+product_of_newest (c ∷ (b ∷ [])) = []
+product_of_newest (c ∷ (b ∷ (a ∷ ts))) = ProductOver a b c ∷ ts
+
+-- the newest as the number of a cell
+abbrev pub cell_of_newest : ℕ → ℕ → List Term → List Term
+cell_of_newest first count [] = []
+cell_of_newest first count (index ∷ ts) = CellAt first count index ∷ ts
+
 -- the newest body with one more statement in front
 abbrev pub in_front : Statement → List Body → List Body
 in_front s [] = []
@@ -155,6 +194,18 @@ with_choice (e ∷ ts) [] = record { terms = ts; bodies = [] }
 with_choice (e ∷ ts) (b ∷ []) = record { terms = ts; bodies = [] }
 with_choice (e ∷ ts) (b ∷ (a ∷ bs)) = record { terms = ts; bodies = in_front (Choose e a b) bs }
 
+-- the two newest expressions as the number and the value of a cell, in front of the newest body
+abbrev pub with_set_cell : ℕ → ℕ → List Term → List Body → Stacks
+with_set_cell first count [] bodies = record { terms = []; bodies = bodies }
+with_set_cell first count (e ∷ []) bodies = record { terms = []; bodies = bodies }
+with_set_cell first count (e ∷ (index ∷ ts)) bodies = record { terms = ts; bodies = in_front (SetCell first count index e) bodies }
+
+-- the newest expression and the newest body as a loop, in front of the body before it
+abbrev pub with_loop : ℕ → List Term → List Body → Stacks
+with_loop most [] bodies = record { terms = []; bodies = bodies }
+with_loop most (e ∷ ts) [] = record { terms = ts; bodies = [] }
+with_loop most (e ∷ ts) (b ∷ bs) = record { terms = ts; bodies = in_front (Repeat most e b) bs }
+
 -- what was read so far, after one more node
 abbrev pub with_mark : Mark → Stacks → Stacks
 with_mark m now =
@@ -165,8 +216,14 @@ with_mark m now =
     (if m.0 == 4 then record now { terms = of_newest (unary_at m.1.0) now.terms } else
     (if m.0 == 5 then record now { terms = of_two_newest (binary_at m.1.0) now.terms } else
     (if m.0 == 6 then record now { terms = choice_of_newest now.terms } else
+    (if m.0 == 15 then record now { terms = product_of_newest now.terms } else
+    (if m.0 == 12 then record now { terms = cell_of_newest m.1.0 m.1.1.0 now.terms } else
+    (if m.0 == 16 then with_term TimeNow now else
+    (if m.0 == 17 then with_term MicrostepNow now else
     (if m.0 == 7 then with_body Done now else
-    (if m.0 == 11 then with_choice now.terms now.bodies else with_statement m now.terms now.bodies))))))))
+    (if m.0 == 11 then with_choice now.terms now.bodies else
+    (if m.0 == 13 then with_set_cell m.1.0 m.1.1.0 now.terms now.bodies else
+    (if m.0 == 14 then with_loop m.1.0 now.terms now.bodies else with_statement m now.terms now.bodies))))))))))))))
 
 -- and after a list of nodes
 abbrev pub read : List Mark → Stacks → Stacks
@@ -201,6 +258,13 @@ read-spelled (Choice c a b) rest now =
     read-spelled c (spelled a (spelled b (mark 6 0 0 ∷ rest))) now
     ∙ read-spelled a (spelled b (mark 6 0 0 ∷ rest)) (with_term c now)
     ∙ read-spelled b (mark 6 0 0 ∷ rest) (with_term a (with_term c now))
+read-spelled (ProductOver a b c) rest now =
+    read-spelled a (spelled b (spelled c (mark 15 0 0 ∷ rest))) now
+    ∙ read-spelled b (spelled c (mark 15 0 0 ∷ rest)) (with_term a now)
+    ∙ read-spelled c (mark 15 0 0 ∷ rest) (with_term b (with_term a now))
+read-spelled (CellAt first count index) rest now = read-spelled index (mark 12 first count ∷ rest) now
+read-spelled TimeNow rest now = refl
+read-spelled MicrostepNow rest now = refl
 
 -- and the statement, in front of the newest body, and the body
 mutual
@@ -213,6 +277,12 @@ mutual
       read-spelled e (spelled_body first (spelled_body second (mark 11 0 0 ∷ rest))) (with_body b now)
       ∙ read-spelled_body first (spelled_body second (mark 11 0 0 ∷ rest)) (with_term e (with_body b now))
       ∙ read-spelled_body second (mark 11 0 0 ∷ rest) (with_body first (with_term e (with_body b now)))
+  read-spelled_one (SetCell first count index e) rest b now =
+      read-spelled index (spelled e (mark 13 first count ∷ rest)) (with_body b now)
+      ∙ read-spelled e (mark 13 first count ∷ rest) (with_term index (with_body b now))
+  read-spelled_one (Repeat most e body) rest b now =
+      read-spelled e (spelled_body body (mark 14 most 0 ∷ rest)) (with_body b now)
+      ∙ read-spelled_body body (mark 14 most 0 ∷ rest) (with_term e (with_body b now))
 
   pub read-spelled_body : (b : Body) (rest : List Mark) (now : Stacks) → read (spelled_body b rest) now ≡ read rest (with_body b now)
   read-spelled_body Done rest now = refl

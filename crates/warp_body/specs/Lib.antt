@@ -1,4 +1,6 @@
 pub mod Presence
+pub mod Cell
+pub mod Mixing
 pub mod Term
 pub mod Effect
 pub mod Codes

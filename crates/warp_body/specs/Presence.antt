@@ -1,13 +1,16 @@
 -- What is present at a tag.
 use Rattle.std.specs.Prelude.{ℕ, ℤ, pos, Bool, true, ◌==◌, ◌&&◌, ◌||◌, nat_lt, List, Option, Some, None, unwrap_or, slice_index_or, slice_set, length, replicate}
 use Rattle.std.specs.List.{list_all}
+use Rattle.warp_tag.specs.Moment.{Moment}
 use Rattle.warp_body.specs.declared.place.Places.{Places}
 use Rattle.warp_body.specs.declared.place.Target.{Target}
 use Rattle.warp_body.specs.declared.place.Target.TheVariants.{Startup, Timer, Action, Port}
 
 -- The places of a program: `startup`, each timer, each action and each port is absent, or present with one value. A port has
--- the presence of its source: its own, or where a link without delay leads to it, that of the port from which it leads.
+-- the presence of its source: its own, or where a link without delay leads to it, that of the port from which it leads. And the
+-- tag at which all this is.
 pub record Presence : Type 0 where
+  pub tag : Moment
   pub startup : Option ℤ
   pub timers : List (Option ℤ)
   pub actions : List (Option ℤ)
@@ -25,9 +28,10 @@ target_fits places (Timer n) = nat_lt n places.timers
 target_fits places (Action n) = nat_lt n places.actions
 target_fits places (Port n) = nat_lt n places.ports
 
--- nothing is present, of so many places, and ports with these sources
-abbrev pub nothing_present : Places → List ℕ → Presence
-nothing_present places sources = record {
+-- nothing is present at a tag, of so many places, and ports with these sources
+abbrev pub nothing_present : Moment → Places → List ℕ → Presence
+nothing_present tag places sources = record {
+  tag = tag;
   startup = None;
   timers = replicate places.timers None;
   actions = replicate places.actions None;

@@ -2,8 +2,10 @@
 ghost use Rattle.std.specs.Prelude.{◌≡◌, length, IsTrue, IfOk, ◌↔◌};
 ghost use Rattle.warp_body.specs.Term.{Term, term_of, value_of, term_fits, sizes_of};
 
+use crate::cell::read_cell;
 use crate::operator::{BinaryOperator, UnaryOperator, as_number, is_true};
 use crate::place::{Present, Sizes, Target, Vars};
+use crate::wide::multiply_divide;
 use std::alloc::Global;
 use warp_tag::OutOfMemory;
 
@@ -24,6 +26,16 @@ pub enum Expr {
     Binary(BinaryOperator, Box<Expr>, Box<Expr>),
     /// The second where the first isn't 0, else the third.
     If(Box<Expr>, Box<Expr>, Box<Expr>),
+    /// The Euclidean quotient of the product of the first two, whole in 128 bits, by the third: its low 64 bits, 0 for
+    /// the divisor 0.
+    MultiplyDivide(Box<Expr>, Box<Expr>, Box<Expr>),
+    /// The value of a cell of an array, which is a range of variables: the number of its first variable, how many there
+    /// are, and the number of the cell, from 0. It is 0 where there is no cell with this number.
+    At(u32, u32, Box<Expr>),
+    /// The time of the tag that is executed.
+    Time,
+    /// Its microstep.
+    Microstep,
 }
 
 /// The value of an expression, whose places and variables are among these.
@@ -56,6 +68,17 @@ fn evaluate(expr: &Expr, vars: &[i64], present: &Present) -> i64
                 evaluate(b, vars, present)
             }
         }
+        Expr::MultiplyDivide(a, b, c) => {
+            let first = evaluate(a, vars, present);
+            let second = evaluate(b, vars, present);
+            multiply_divide(first, second, evaluate(c, vars, present))
+        }
+        Expr::At(first, count, index) => {
+            let number = evaluate(index, vars, present);
+            read_cell(vars, *first, *count, number)
+        }
+        Expr::Time => present.tag().time() as i64,
+        Expr::Microstep => i64::from(present.tag().micro()),
     }
 }
 
@@ -65,12 +88,16 @@ impl Expr {
         ensures { result ≡ term_fits sizes (term_of self.now) }
     {
         match self {
-            Expr::Number(_) => true,
+            Expr::Number(_) | Expr::Time | Expr::Microstep => true,
             Expr::Variable(k) => (*k as usize) < sizes.vars,
             Expr::Value(target) | Expr::Present(target) => target.fits(sizes.places),
             Expr::Unary(_, a) => a.fits(sizes),
             Expr::Binary(_, a, b) => a.fits(sizes) && b.fits(sizes),
             Expr::If(condition, a, b) => { condition.fits(sizes) && a.fits(sizes) && b.fits(sizes) }
+            Expr::MultiplyDivide(a, b, c) => a.fits(sizes) && b.fits(sizes) && c.fits(sizes),
+            Expr::At(first, count, index) => {
+                *first as usize + *count as usize <= sizes.vars && index.fits(sizes)
+            }
         }
     }
 
@@ -98,6 +125,18 @@ impl Expr {
                 let b = boxed(alloc, b.copy(alloc))?;
                 Ok(Expr::If(condition, a, b))
             }
+            Expr::MultiplyDivide(a, b, c) => {
+                let a = boxed(alloc, a.copy(alloc))?;
+                let b = boxed(alloc, b.copy(alloc))?;
+                let c = boxed(alloc, c.copy(alloc))?;
+                Ok(Expr::MultiplyDivide(a, b, c))
+            }
+            Expr::At(first, count, index) => {
+                let index = boxed(alloc, index.copy(alloc))?;
+                Ok(Expr::At(*first, *count, index))
+            }
+            Expr::Time => Ok(Expr::Time),
+            Expr::Microstep => Ok(Expr::Microstep),
         }
     }
 
@@ -113,6 +152,11 @@ impl Expr {
             (Expr::Unary(o, a), Expr::Unary(p, b)) => o == p && a.same(b),
             (Expr::Binary(o, a, b), Expr::Binary(p, c, d)) => o == p && a.same(c) && b.same(d),
             (Expr::If(a, b, c), Expr::If(d, e, f)) => a.same(d) && b.same(e) && c.same(f),
+            (Expr::MultiplyDivide(a, b, c), Expr::MultiplyDivide(d, e, f)) => {
+                a.same(d) && b.same(e) && c.same(f)
+            }
+            (Expr::At(m, k, a), Expr::At(n, l, b)) => m == n && k == l && a.same(b),
+            (Expr::Time, Expr::Time) | (Expr::Microstep, Expr::Microstep) => true,
             _ => false,
         }
     }

@@ -6,15 +6,19 @@
 //! copies.
 #![tactic(auto)]
 
+mod cell;
 mod code;
 mod compile;
 mod divisor;
 mod expr;
 mod instruction;
+mod mixing;
 mod operator;
 mod place;
+mod shapes;
 mod slots;
 mod stmt;
+mod wide;
 
 pub use code::Code;
 pub use expr::{Expr, eval};

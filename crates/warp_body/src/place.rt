@@ -1,14 +1,16 @@
 //! What a body reads and writes: the variables, and what is present.
 ghost use Rattle.std.specs.Prelude.{◌≡◌, ℕ, ℤ, ◌<◌, List, length, slice_index_or, slice_set, Option, Some, None, pos};
-ghost use Rattle.std.specs.Prelude.{IfOk, ◌==◌, IsTrue, nat_lt};
+ghost use Rattle.std.specs.Prelude.{◌+◌, ◌≤◌, IfOk, ◌==◌, IsTrue, nat_lt};
 ghost use Rattle.std.specs.List.{list_all};
+ghost use Rattle.warp_body.specs.Cell.{with_cell};
 ghost use Rattle.warp_body.specs.Presence.{Presence, places_of, target_fits, nothing_present, present_at, with_value};
 ghost use Rattle.warp_body.specs.Presence.{kind_of, number_of, target_before, is_target};
 
+use crate::cell::write_cell;
 use crate::slots::{Slot, Slots};
 use std::alloc::Global;
 use std::marker::Model;
-use warp_tag::OutOfMemory;
+use warp_tag::{OutOfMemory, Tag};
 
 /// What can be present at a tag, and can be pending: what a reaction may react to.
 #[derive(Clone, Copy, Debug, Default, PartialEq, Eq)]
@@ -163,14 +165,24 @@ impl Vars {
     {
         self.values[variable as usize] = value;
     }
+
+    /// Sets a cell of an array, of so many variables from the first one on; nothing where there is none with this number.
+    pub fn set_cell(&mut self, first: u32, count: u32, index: i64, value: i64)
+        requires { first + count ≤ length self.old }
+        ensures cell { self.new ≡ with_cell self.old first count index value }
+        ensures len { length self.new ≡ length self.old }
+    {
+        write_cell(&mut self.values, first, count, index, value);
+    }
 }
 
-/// What is present at a tag, and with what value: startup, and each timer, action and port, is absent, or present
-/// with one value. A port to which a link without delay leads has the presence of the port from which it leads.
+/// What is present at a tag, which it knows, and with what value: startup, and each timer, action and port, is absent,
+/// or present with one value. A port to which a link without delay leads has the presence of the port from which it leads.
 ///
 /// All places share one count of moments.
 #[derive(Debug, Drop)]
 pub struct Present {
+    tag: Tag,
     moment: u64,
     startup: Slot,
     timers: Slots,
@@ -186,7 +198,7 @@ impl Model for Present {
 
     ghost Value = { Presence };
 
-    ghost view = { λ p. presence_at p.moment p.startup
+    ghost view = { λ p. presence_at p.tag p.moment p.startup
         p.timers.places.items p.actions.places.items p.ports.places.items p.sources.items };
 
     ghost invariant = { λ p. 0 < p.moment
@@ -198,16 +210,17 @@ impl Model for Present {
 }
 
 impl Present {
-    /// So many places, of which none is present; the source of a port is the port whose presence it has.
+    /// So many places, of which none is present at the first tag; the source of a port is the port whose presence it has.
     pub fn new(alloc: Global, places: Places, sources: Vec<u32>) -> Result<Present, OutOfMemory>
         requires len { length sources.items ≡ places.ports }
         requires ports { IsTrue (list_all (λ p. nat_lt p places.ports) sources.items) }
-        ensures { IfOk result (λ p. p ≡ nothing_present places sources.items) }
+        ensures { IfOk result (λ p. p ≡ nothing_present (record { time = 0; microstep = 0 }) places sources.items) }
     {
         let timers = Slots::new(alloc, places.timers)?;
         let actions = Slots::new(alloc, places.actions)?;
         let ports = Slots::new(alloc, places.ports)?;
         Ok(Present {
+            tag: Tag::beginning_of(0),
             moment: 1,
             startup: Slot::empty(),
             timers,
@@ -215,6 +228,13 @@ impl Present {
             ports,
             sources,
         })
+    }
+
+    /// The tag at which all this is.
+    pub fn tag(&self) -> Tag
+        ensures { result ≡ self.now.tag }
+    {
+        self.tag
     }
 
     /// How many places there are.
@@ -257,11 +277,12 @@ impl Present {
         }
     }
 
-    /// Makes everything absent.
+    /// Makes everything absent, at this tag.
     #[inline(always)]
-    pub fn clear(&mut self)
-        ensures { self.new ≡ nothing_present (places_of self.old) self.old.sources }
+    pub fn clear(&mut self, tag: Tag)
+        ensures { self.new ≡ nothing_present tag (places_of self.old) self.old.sources }
     {
+        self.tag = tag;
         match self.moment.checked_add(1) {
             Some(next) => self.moment = next,
             None => self.restart(),
@@ -271,7 +292,7 @@ impl Present {
     /// Makes everything absent by emptying all places, so that moments can be counted from 1 again.
     #[inline(never)]
     fn restart(&mut self)
-        ensures { self.new ≡ nothing_present (places_of self.old) self.old.sources }
+        ensures { self.new ≡ nothing_present self.old.tag (places_of self.old) self.old.sources }
     {
         self.startup = Slot::empty();
         self.timers.restart();

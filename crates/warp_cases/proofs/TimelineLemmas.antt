@@ -7,7 +7,7 @@ use Rattle.warp_tag.specs.declared.entry.Entry.{Entry}
 use Rattle.warp_tag.proofs.Tables.{length-changed}
 use Rattle.warp_step.specs.Program.{Program}
 use Rattle.warp_record.specs.declared.record.Record.{Record}
-use Rattle.warp_record.specs.declared.record.Record.TheVariants.{Event, Withdraw, Announce}
+use Rattle.warp_record.specs.declared.record.Record.TheVariants.{Event, Withdraw, Announce, Joint}
 use Rattle.warp_line.specs.Timeline.{Standing, NowStands}
 use Rattle.warp_table.specs.Check.{refusal_of}
 use Rattle.warp_table.specs.LogNames.{with_record}
@@ -18,6 +18,7 @@ one_more : (table : List Entry) (said : Record) → length (with_record table sa
 one_more table (Event origin tag input value) = length-changed (with_event input value) origin tag table
 one_more table (Withdraw origin tag) = length-changed with_withdrawal origin tag table
 one_more table (Announce origin tag events withdrawn) = omega arith
+one_more table (Joint tag events withdrawn) = omega arith
 
 -- what a call keeps is so behind it
 pub kept : {T : Type 0} (stands_for : T → Standing → Type 0) (v w : T) (P : Program) (n : ℕ)

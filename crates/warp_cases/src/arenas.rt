@@ -138,6 +138,7 @@ fn said_of(text: &str) -> Option<Said> {
             payload: None,
         }),
         Record::Announce { .. } => None,
+        Record::Joint { .. } => None,
     }
 }
 

@@ -1,7 +1,7 @@
 //! A board of two rows, with its writer and its readers. Each call but the making of boards takes no memory. And boards
 //! with room for as many rows as a form allows, which are filled.
 ghost use Rattle.std.specs.Prelude.{◌≡◌, ◌<◌};
-ghost use Rattle.warp_tag.specs.Limits.{most_outputs};
+ghost use Rattle.warp_tag.specs.Limits.{most_outputs, widest};
 
 use crate::lines::{form_of, number_of, tag_of};
 use crate::mark::{begin, end};
@@ -173,7 +173,7 @@ fn append_one(
 /// Appends a row.
 fn append(alloc: Global, out: &mut Transcript, board: &Board, writer: &mut Writer, row: Out)
     requires board { writer.old.board ≡ board.now }
-    requires port { row.port < most_outputs }
+    requires port { row.port < most_outputs widest }
     ensures { writer.new.board ≡ board.now }
 {
     begin(alloc);

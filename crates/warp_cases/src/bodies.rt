@@ -15,12 +15,13 @@ use crate::transcript::Transcript;
 use std::alloc::{AllocError, Global};
 use warp_body::{Code, Places, Present, Sizes, Stmt, Target, Vars, Wishes, fits, run_body};
 use warp_step::Program;
+use warp_tag::Tag;
 
 /// The most wishes of one body.
 const MOST_WISHES: usize = 16;
 
 /// How many ports a program has at most.
-const MOST_PORTS: u32 = 256;
+const MOST_PORTS: u32 = 1_024;
 
 /// Variables, and what is present.
 #[derive(Drop)]
@@ -115,7 +116,7 @@ impl Side {
     /// Sets a variable, or makes a target present, or all absent. Whether it could.
     fn put(&mut self, word: &str, number: u32, value: i64) -> bool {
         if word == "clear" {
-            self.present.clear();
+            self.present.clear(Tag::beginning_of(0));
             return true;
         }
         if word == "set" {

@@ -97,7 +97,7 @@ fn make_call<T: Holding>(
         return out.say(format_args!("{} names", one.replica().timeline().names_held()));
     }
     if let Some(text) = line.strip_prefix("hear ") {
-        return hear(out, puller, read_reply(Form::Three, text.as_bytes()), one);
+        return hear(out, puller, read_reply(Form::Four, text.as_bytes()), one);
     }
     match line.strip_prefix("behind ") {
         Some(tag) => is_behind(out, one, tag),

@@ -3,7 +3,7 @@ use crate::transcript::Transcript;
 use warp_tag::Form;
 
 /// Each form.
-const FORMS: [Form; 3] = [Form::One, Form::Two, Form::Three];
+const FORMS: [Form; 4] = [Form::One, Form::Two, Form::Three, Form::Four];
 
 /// Tells the limits of each form, and then of each two the wider.
 pub(crate) fn perform(out: &mut Transcript) {

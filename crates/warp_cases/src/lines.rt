@@ -16,18 +16,19 @@ pub(crate) fn form_of(version: &str) -> Option<Form> {
         "1" => Some(Form::One),
         "2" => Some(Form::Two),
         "3" => Some(Form::Three),
+        "4" => Some(Form::Four),
         _ => None,
     }
 }
 
 /// The line of a session that a text spells.
 pub(crate) fn line_of(text: &str) -> Option<Line> {
-    read_line(Form::Three, text.as_bytes())
+    read_line(Form::Four, text.as_bytes())
 }
 
 /// The record of a line that spells one.
 pub(crate) fn record_of(text: &str) -> Option<Record> {
-    match read_line(Form::Three, text.as_bytes()) {
+    match read_line(Form::Four, text.as_bytes()) {
         Some(Line::Put(record)) => Some(record),
         _ => None,
     }
@@ -35,7 +36,7 @@ pub(crate) fn record_of(text: &str) -> Option<Record> {
 
 /// The query of a line that is one.
 pub(crate) fn query_of(text: &str) -> Option<Query> {
-    match read_line(Form::Three, text.as_bytes()) {
+    match read_line(Form::Four, text.as_bytes()) {
         Some(Line::Ask(query)) => Some(query),
         _ => None,
     }

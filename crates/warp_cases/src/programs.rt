@@ -105,6 +105,7 @@ fn tell_once(alloc: Global, out: &mut Transcript, named: &NamedProgram) {
     let options = AccountOptions {
         numbers: true,
         rows: false,
+        work: true,
         fingerprint: true,
         names: true,
     };

@@ -78,7 +78,7 @@ fn say_record(alloc: Global, out: &mut Transcript, record: &Record) {
 /// Reads a reply from each line, tells it, and writes it.
 pub(crate) fn read_replies(alloc: Global, out: &mut Transcript, lines: &str) {
     for line in lines.lines() {
-        match read_reply(Form::Three, line.as_bytes()) {
+        match read_reply(Form::Four, line.as_bytes()) {
             Some(reply) => say_reply(alloc, out, &reply),
             None => out.say("no reply"),
         }

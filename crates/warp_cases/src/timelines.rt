@@ -173,6 +173,7 @@ fn comes_behind<T: Timeline>(timeline: &T, record: &Record) -> bool
         Record::Event { tag, .. } => timeline.behind(tag),
         Record::Withdraw { tag, .. } => timeline.behind(tag),
         Record::Announce { .. } => false,
+        Record::Joint { .. } => false,
     }
 }
 
@@ -194,6 +195,7 @@ fn put<T: Timeline>(timeline: &mut T, record: &Record)
         Record::Withdraw { origin, tag } => timeline.withdraw(origin, tag),
         // What it says counts for no event.
         Record::Announce { .. } => {}
+        Record::Joint { .. } => {}
     }
 }
 

@@ -125,6 +125,10 @@ fn question_of(word: &str, rest: &str) -> Option<Question> {
         "vars" => Some(Question::Vars),
         "releases" => Some(Question::Releases),
         "release" => Some(Question::Release(number_of(rest)?)),
+        "cells" => {
+            let (first, count) = span_of(rest)?;
+            Some(Question::Cells { first, count })
+        }
         "counts" => Some(Question::Counts(number_of(rest)?)),
         "reached" => Some(Question::Reached(number_of(rest)?)),
         "horizon" => Some(Question::Horizon),

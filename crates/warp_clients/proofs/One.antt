@@ -68,6 +68,7 @@ may_word : (r : Rights) (said : Word) → May r (room_line (word_saying r said))
 may_word r word.Program = tt
 may_word r word.Names = may_known r (is_known r) (saying.Word word.Names) refl
 may_word r word.Vars = may_known r (is_known r) (saying.Word word.Vars) refl
+may_word r (word.Cells first count) = may_known r (is_known r) (saying.Word (word.Cells first count)) refl
 may_word r word.Releases = may_known r (is_known r) (saying.Word word.Releases) refl
 may_word r word.Digest = may_known r (is_known r) (saying.Word word.Digest) refl
 may_word r (word.Release number) = may_known r (is_known r) (saying.Word (word.Release number)) refl

@@ -73,6 +73,7 @@ abbrev pub IsAsked : Word → Type 0
 IsAsked word.Program = ⊥
 IsAsked word.Names = ⊥
 IsAsked word.Vars = Unit {0}
+IsAsked (word.Cells first count) = Unit {0}
 IsAsked word.Releases = Unit {0}
 IsAsked word.Digest = Unit {0}
 IsAsked (word.Release number) = Unit {0}
@@ -90,7 +91,7 @@ refused_14 = codes "refused 14\n"
 
 -- the answer to a word that begins or ends a watch: how many things the client watches then
 abbrev pub IsWatching : List ℕ → Type 0
-IsWatching text = (count : ℕ) × (count ≤ 6) × (text ≡ codes "watching " ++ (48 + count) ∷ 10 ∷ [])
+IsWatching text = (count : ℕ) × (count ≤ 7) × (text ≡ codes "watching " ++ (48 + count) ∷ 10 ∷ [])
 
 -- The texts that are answered here. Of a word that is asked about the replica, and of a look, the answer is given with the
 -- step that tells it.

@@ -26,6 +26,7 @@ pub(crate) fn asks_of(word: &Word) -> Option<Asks>
 {
     match *word {
         Word::Vars => Some(Asks::Of(Question::Vars)),
+        Word::Cells(first, count) => Some(Asks::Of(Question::Cells { first, count })),
         Word::Releases => Some(Asks::Of(Question::Releases)),
         Word::Digest => Some(Asks::Digest),
         Word::Release(number) => Some(Asks::Of(Question::Release(number))),

@@ -34,6 +34,7 @@ pub(crate) fn is_watch(word: &Word) -> bool
         Word::Program
         | Word::Names
         | Word::Vars
+        | Word::Cells(..)
         | Word::Releases
         | Word::Digest
         | Word::Release(_)
@@ -48,6 +49,7 @@ pub(crate) struct Subjects {
     log: bool,
     released: bool,
     vars: bool,
+    cells: bool,
     horizon: bool,
     breach: bool,
     steps: bool,
@@ -58,6 +60,7 @@ pub(crate) const NO_SUBJECTS: Subjects = Subjects {
     log: false,
     released: false,
     vars: false,
+    cells: false,
     horizon: false,
     breach: false,
     steps: false,
@@ -70,6 +73,7 @@ impl Subjects {
             Subject::Log => self.log = is_watched,
             Subject::Released => self.released = is_watched,
             Subject::Vars => self.vars = is_watched,
+            Subject::Cells => self.cells = is_watched,
             Subject::Horizon => self.horizon = is_watched,
             Subject::Breach => self.breach = is_watched,
             Subject::Steps => self.steps = is_watched,
@@ -84,6 +88,7 @@ impl Subjects {
             Word::Program
             | Word::Names
             | Word::Vars
+            | Word::Cells(..)
             | Word::Releases
             | Word::Digest
             | Word::Release(_)
@@ -94,11 +99,12 @@ impl Subjects {
 
     /// How many things are watched.
     fn count(&self) -> u8
-        ensures { result ≤ 6 }
+        ensures { result ≤ 7 }
     {
         u8::from(self.log)
             + u8::from(self.released)
             + u8::from(self.vars)
+            + u8::from(self.cells)
             + u8::from(self.horizon)
             + u8::from(self.breach)
             + u8::from(self.steps)
@@ -111,6 +117,7 @@ fn subject_of(watch: Watch) -> Subject {
         Watch::Log(_) => Subject::Log,
         Watch::Released(_) => Subject::Released,
         Watch::Vars => Subject::Vars,
+        Watch::Cells(..) => Subject::Cells,
         Watch::Horizon => Subject::Horizon,
         Watch::Breach => Subject::Breach,
         Watch::Steps => Subject::Steps,
@@ -121,7 +128,7 @@ impl Client {
     /// What the word says is so of what it watches: how many things it watches then.
     fn watch(&mut self, word: &Word) -> u8
         ensures same { self.new ≡ self.old }
-        ensures few { result ≤ 6 }
+        ensures few { result ≤ 7 }
     {
         self.watches.note(word);
         self.watches.count()
@@ -132,7 +139,7 @@ impl Places {
     /// What the word says is so of what the client watches: how many things it watches then; none where it is not there.
     fn watch(&mut self, who: ClientId, word: &Word) -> u8
         ensures same { self.new ≡ self.old }
-        ensures few { result ≤ 6 }
+        ensures few { result ≤ 7 }
     {
         let at = who.key as usize;
         if at >= self.clients.len() || !self.clients[at].is_me(who) {
@@ -144,7 +151,7 @@ impl Places {
 
 /// Puts the line that tells how many things a client watches in the place of what is there; whether there was memory.
 fn spell_watching(text: &mut Vec<u8>, count: u8) -> bool
-    requires { count ≤ 6 }
+    requires { count ≤ 7 }
     ensures { IsTrue result → IsWatching text.new.items }
 {
     text.clear();
@@ -172,7 +179,7 @@ impl Crowd {
     /// memory.
     fn note_watch(&mut self, who: ClientId, word: &Word) -> Option<u8>
         ensures same { self.new ≡ self.old }
-        ensures few { IfSome result (λ count. count ≤ 6) }
+        ensures few { IfSome result (λ count. count ≤ 7) }
     {
         let watched = Watched { who, word: *word };
         if self.watched.push_back(watched).is_err() {
@@ -183,7 +190,7 @@ impl Crowd {
 
     /// A client's word that began or ended a watch is answered by how many things it watches now.
     fn speak_watching(&mut self, who: ClientId, said: &Saying, count: u8)
-        requires few { count ≤ 6 }
+        requires few { count ≤ 7 }
         requires next { IsThere who (IsNext said.now) self.old.clients }
         requires own { (text : List ℕ) → IsWatching text → IsOwn self.old.common.facts said.now text }
         ensures { Moves who self.old self.new }

@@ -1,2 +1,3 @@
 mod WordForms
 pub mod OneLog
+pub mod TokenLines

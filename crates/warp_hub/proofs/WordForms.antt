@@ -1,11 +1,11 @@
--- Which words have two or three words, and what these are.
+-- Which words have two, three or four words, and what these are.
 use Rattle.std.proofs.Common.{◌≡◌, ℕ, ◌<◌, ◌≤◌, true, List, [], ◌∷◌, length, get_or, drop, codes, decimal, refl, sym, ap, ◌∙◌, arith}
 use Rattle.std.specs.List.{slice_split}
 use Rattle.std.proofs.lemmas.Fmt.{decimal_injective}
 use Rattle.warp_record.specs.Number.{is_space}
 use Rattle.warp_record.proofs.PlainWords.{are_plain, is_plain, plain_decimal, words_of_text}
 use Rattle.warp_tag.specs.Limits.{last_number}
-use Rattle.warp_hub.specs.Words.{IsWatch, IsWord, subject_name, watch_words, word_spelling, word_words}
+use Rattle.warp_hub.specs.Words.{IsRange, IsWatch, IsWord, subject_name, watch_words, word_spelling, word_words}
 use Rattle.warp_hub.specs.declared.words.Subject.{Subject}
 use Rattle.warp_hub.specs.declared.words.Subject.TheVariants as subject
 use Rattle.warp_hub.specs.declared.words.Watch.{Watch}
@@ -38,6 +38,7 @@ pub two_of : (key text : List ℕ) (said : Word) → IsWord said → key ∷ tex
 two_of key text word.Program fits are = absurd (omega (arith, count _ _ are))
 two_of key text word.Names fits are = absurd (omega (arith, count _ _ are))
 two_of key text word.Vars fits are = absurd (omega (arith, count _ _ are))
+two_of key text (word.Cells from many) fits are = absurd (omega (arith, count _ _ are))
 two_of key text word.Releases fits are = absurd (omega (arith, count _ _ are))
 two_of key text word.Digest fits are = absurd (omega (arith, count _ _ are))
 two_of key text (word.Release number) fits are = release number fits (first _ _ are) (second _ _ are)
@@ -46,6 +47,7 @@ two_of key text (word.Reached origin) fits are = reached origin fits (first _ _ 
 two_of key text (word.Watch (watch.Log place)) fits are = absurd (omega (arith, count _ _ are))
 two_of key text (word.Watch (watch.Released number)) fits are = absurd (omega (arith, count _ _ are))
 two_of key text (word.Watch watch.Vars) fits are = watched watch.Vars tt (first _ _ are) (rest _ _ are)
+two_of key text (word.Watch (watch.Cells from many)) fits are = absurd (omega (arith, count _ _ are))
 two_of key text (word.Watch watch.Horizon) fits are = watched watch.Horizon tt (first _ _ are) (rest _ _ are)
 two_of key text (word.Watch watch.Breach) fits are = watched watch.Breach tt (first _ _ are) (rest _ _ are)
 two_of key text (word.Watch watch.Steps) fits are = watched watch.Steps tt (first _ _ are) (rest _ _ are)
@@ -113,25 +115,56 @@ no_unwatch key text said key_is none fits are = elim (two_of key text said fits 
   | unwatched what is text_is ↦ none what text_is
 ]
 
--- a word of three words is a watch of something from a number on
-pub three_of : (key what number : List ℕ) (said : Word) → IsWord said → key ∷ what ∷ number ∷ [] ≡ word_words said
-    → (w : Watch) × IsWatch w × (key ≡ codes "watch") × (what ∷ number ∷ [] ≡ watch_words w)
+-- a word of three words is a watch of something from a number on, or asks for so many variables from one on
+pub data Three (key what number : List ℕ) : Type 0 where
+  watched : (w : Watch) → IsWatch w → key ≡ codes "watch" → what ∷ number ∷ [] ≡ watch_words w → Three key what number
+  asked : (from many : ℕ) → IsRange from many → key ≡ codes "cells" → what ≡ decimal from → number ≡ decimal many → Three key what number
+
+pub three_of : (key what number : List ℕ) (said : Word) → IsWord said → key ∷ what ∷ number ∷ [] ≡ word_words said → Three key what number
 three_of key what number word.Program fits are = absurd (omega (arith, count _ _ are))
 three_of key what number word.Names fits are = absurd (omega (arith, count _ _ are))
 three_of key what number word.Vars fits are = absurd (omega (arith, count _ _ are))
+three_of key what number (word.Cells from many) fits are =
+    asked from many fits (first _ _ are) (second _ _ are) (first _ _ (rest _ _ (rest _ _ are)))
 three_of key what number word.Releases fits are = absurd (omega (arith, count _ _ are))
 three_of key what number word.Digest fits are = absurd (omega (arith, count _ _ are))
 three_of key what number (word.Release n) fits are = absurd (omega (arith, count _ _ are))
 three_of key what number (word.Counts n) fits are = absurd (omega (arith, count _ _ are))
 three_of key what number (word.Reached n) fits are = absurd (omega (arith, count _ _ are))
-three_of key what number (word.Watch w) fits are = (w, fits, first _ _ are, rest _ _ are)
+three_of key what number (word.Watch w) fits are = watched w fits (first _ _ are) (rest _ _ are)
 three_of key what number (word.Unwatch w) fits are = absurd (omega (arith, count _ _ are))
+
+-- a word of four words watches so many variables from one on
+pub four_of : (key what from_text many_text : List ℕ) (said : Word) → IsWord said
+    → key ∷ what ∷ from_text ∷ many_text ∷ [] ≡ word_words said
+    → (from : ℕ) × (many : ℕ) × IsRange from many × (key ≡ codes "watch") × (what ≡ codes "cells")
+    × (from_text ≡ decimal from) × (many_text ≡ decimal many)
+four_of key what f m word.Program fits are = absurd (omega (arith, count _ _ are))
+four_of key what f m word.Names fits are = absurd (omega (arith, count _ _ are))
+four_of key what f m word.Vars fits are = absurd (omega (arith, count _ _ are))
+four_of key what f m (word.Cells from many) fits are = absurd (omega (arith, count _ _ are))
+four_of key what f m word.Releases fits are = absurd (omega (arith, count _ _ are))
+four_of key what f m word.Digest fits are = absurd (omega (arith, count _ _ are))
+four_of key what f m (word.Release n) fits are = absurd (omega (arith, count _ _ are))
+four_of key what f m (word.Counts n) fits are = absurd (omega (arith, count _ _ are))
+four_of key what f m (word.Reached n) fits are = absurd (omega (arith, count _ _ are))
+four_of key what f m (word.Watch (watch.Log place)) fits are = absurd (omega (arith, count _ _ are))
+four_of key what f m (word.Watch (watch.Released n)) fits are = absurd (omega (arith, count _ _ are))
+four_of key what f m (word.Watch watch.Vars) fits are = absurd (omega (arith, count _ _ are))
+four_of key what f m (word.Watch (watch.Cells from many)) fits are =
+    let behind = rest _ _ (rest _ _ are) in
+    (from, many, fits, first _ _ are, second _ _ are, first _ _ behind, second _ _ behind)
+four_of key what f m (word.Watch watch.Horizon) fits are = absurd (omega (arith, count _ _ are))
+four_of key what f m (word.Watch watch.Breach) fits are = absurd (omega (arith, count _ _ are))
+four_of key what f m (word.Watch watch.Steps) fits are = absurd (omega (arith, count _ _ are))
+four_of key what f m (word.Unwatch w) fits are = absurd (omega (arith, count _ _ are))
 
 pub number_of : (what number : List ℕ) (w : Watch) → IsWatch w → what ∷ number ∷ [] ≡ watch_words w
     → (n : ℕ) × (n ≤ last_number) × (number ≡ decimal n)
 number_of what number (watch.Log place) fits are = (place, fits.1, second _ _ are)
 number_of what number (watch.Released n) fits are = (n, fits, second _ _ are)
 number_of what number watch.Vars fits are = absurd (omega (arith, count _ _ are))
+number_of what number (watch.Cells from many) fits are = absurd (omega (arith, count _ _ are))
 number_of what number watch.Horizon fits are = absurd (omega (arith, count _ _ are))
 number_of what number watch.Breach fits are = absurd (omega (arith, count _ _ are))
 number_of what number watch.Steps fits are = absurd (omega (arith, count _ _ are))
@@ -144,6 +177,7 @@ no_place_zero what number (watch.Log place) zero other fits are =
     omega (arith, same, zero, fits.0)
 no_place_zero what number (watch.Released n) zero other fits are = other (first _ _ are)
 no_place_zero what number watch.Vars zero other fits are = omega (arith, count _ _ are)
+no_place_zero what number (watch.Cells from many) zero other fits are = omega (arith, count _ _ are)
 no_place_zero what number watch.Horizon zero other fits are = omega (arith, count _ _ are)
 no_place_zero what number watch.Breach zero other fits are = omega (arith, count _ _ are)
 no_place_zero what number watch.Steps zero other fits are = omega (arith, count _ _ are)
@@ -153,15 +187,17 @@ pub no_watch_from : (what : List ℕ) (number : ℕ) (w : Watch) → (what ≡ c
 no_watch_from what number (watch.Log place) r l fits are = l (first _ _ are)
 no_watch_from what number (watch.Released n) r l fits are = r (first _ _ are)
 no_watch_from what number watch.Vars r l fits are = omega (arith, count _ _ are)
+no_watch_from what number (watch.Cells from many) r l fits are = omega (arith, count _ _ are)
 no_watch_from what number watch.Horizon r l fits are = omega (arith, count _ _ are)
 no_watch_from what number watch.Breach r l fits are = omega (arith, count _ _ are)
 no_watch_from what number watch.Steps r l fits are = omega (arith, count _ _ are)
 
--- a word has one to three words
-pub few_words : (said : Word) → (0 < length (word_words said)) × (length (word_words said) ≤ 3)
+-- a word has one to four words
+pub few_words : (said : Word) → (0 < length (word_words said)) × (length (word_words said) ≤ 4)
 few_words word.Program = (omega arith, omega arith)
 few_words word.Names = (omega arith, omega arith)
 few_words word.Vars = (omega arith, omega arith)
+few_words (word.Cells from many) = (omega arith, omega arith)
 few_words word.Releases = (omega arith, omega arith)
 few_words word.Digest = (omega arith, omega arith)
 few_words (word.Release number) = (omega arith, omega arith)
@@ -170,6 +206,7 @@ few_words (word.Reached origin) = (omega arith, omega arith)
 few_words (word.Watch (watch.Log place)) = (omega arith, omega arith)
 few_words (word.Watch (watch.Released number)) = (omega arith, omega arith)
 few_words (word.Watch watch.Vars) = (omega arith, omega arith)
+few_words (word.Watch (watch.Cells from many)) = (omega arith, omega arith)
 few_words (word.Watch watch.Horizon) = (omega arith, omega arith)
 few_words (word.Watch watch.Breach) = (omega arith, omega arith)
 few_words (word.Watch watch.Steps) = (omega arith, omega arith)
@@ -179,6 +216,7 @@ plain_subject : (what : Subject) → is_plain (subject_name what) ≡ true
 plain_subject subject.Log = refl
 plain_subject subject.Released = refl
 plain_subject subject.Vars = refl
+plain_subject subject.Cells = refl
 plain_subject subject.Horizon = refl
 plain_subject subject.Breach = refl
 plain_subject subject.Steps = refl
@@ -188,6 +226,8 @@ pub plain_words : (said : Word) → IsWord said → are_plain (word_words said) 
 plain_words word.Program fits = refl
 plain_words word.Names fits = refl
 plain_words word.Vars fits = refl
+plain_words (word.Cells from many) fits =
+    rw (plain_decimal from (omega (arith, fits.0))) (rw (plain_decimal many (omega (arith, fits.1.1))) refl)
 plain_words word.Releases fits = refl
 plain_words word.Digest fits = refl
 plain_words (word.Release number) fits = rw (plain_decimal number (omega (arith, fits))) refl
@@ -196,6 +236,8 @@ plain_words (word.Reached origin) fits = rw (plain_decimal origin (omega (arith,
 plain_words (word.Watch (watch.Log place)) fits = rw (plain_decimal place (omega (arith, fits.1))) refl
 plain_words (word.Watch (watch.Released number)) fits = rw (plain_decimal number (omega (arith, fits))) refl
 plain_words (word.Watch watch.Vars) fits = refl
+plain_words (word.Watch (watch.Cells from many)) fits =
+    rw (plain_decimal from (omega (arith, fits.0))) (rw (plain_decimal many (omega (arith, fits.1.1))) refl)
 plain_words (word.Watch watch.Horizon) fits = refl
 plain_words (word.Watch watch.Breach) fits = refl
 plain_words (word.Watch watch.Steps) fits = refl
@@ -203,7 +245,7 @@ plain_words (word.Unwatch what) fits = rw (plain_subject what) refl
 
 -- the words of a text that spells a word
 pub words_of_word : (bytes : List ℕ) (said : Word) → IsWord said → bytes ≡ word_spelling said
-    → (slice_split is_space bytes ≡ word_words said) × (length (slice_split is_space bytes) ≤ 3)
+    → (slice_split is_space bytes ≡ word_words said) × (length (slice_split is_space bytes) ≤ 4)
 words_of_word bytes said fits is =
     let few = few_words said in
     let same = words_of_text bytes (word_words said) few.0 (plain_words said fits) is in

@@ -9,11 +9,20 @@ use Rattle.warp_hub.specs.declared.words.Watch.TheVariants as watch
 use Rattle.warp_hub.specs.declared.words.Word.{Word}
 use Rattle.warp_hub.specs.declared.words.Word.TheVariants as word
 
+-- the most variables that one line tells
+abbrev pub most_cells : ℕ
+most_cells = 4096
+
+-- so many variables from this number on, as a word can ask for
+abbrev pub IsRange : ℕ → ℕ → Type 0
+IsRange first count = (first ≤ last_number) × ((1 ≤ count) × (count ≤ most_cells))
+
 -- the ranges of what is to be watched
 abbrev pub IsWatch : Watch → Type 0
 IsWatch (watch.Log place) = (1 ≤ place) × (place ≤ last_number)
 IsWatch (watch.Released number) = number ≤ last_number
 IsWatch watch.Vars = Unit {0}
+IsWatch (watch.Cells first count) = IsRange first count
 IsWatch watch.Horizon = Unit {0}
 IsWatch watch.Breach = Unit {0}
 IsWatch watch.Steps = Unit {0}
@@ -23,6 +32,7 @@ abbrev pub IsWord : Word → Type 0
 IsWord word.Program = Unit {0}
 IsWord word.Names = Unit {0}
 IsWord word.Vars = Unit {0}
+IsWord (word.Cells first count) = IsRange first count
 IsWord word.Releases = Unit {0}
 IsWord word.Digest = Unit {0}
 IsWord (word.Release number) = number ≤ last_number
@@ -36,6 +46,7 @@ abbrev pub subject_name : Subject → List ℕ
 subject_name subject.Log = codes "log"
 subject_name subject.Released = codes "released"
 subject_name subject.Vars = codes "vars"
+subject_name subject.Cells = codes "cells"
 subject_name subject.Horizon = codes "horizon"
 subject_name subject.Breach = codes "breach"
 subject_name subject.Steps = codes "steps"
@@ -45,6 +56,7 @@ abbrev pub watch_words : Watch → List (List ℕ)
 watch_words (watch.Log place) = codes "log" ∷ decimal place ∷ []
 watch_words (watch.Released number) = codes "released" ∷ decimal number ∷ []
 watch_words watch.Vars = codes "vars" ∷ []
+watch_words (watch.Cells first count) = codes "cells" ∷ decimal first ∷ decimal count ∷ []
 watch_words watch.Horizon = codes "horizon" ∷ []
 watch_words watch.Breach = codes "breach" ∷ []
 watch_words watch.Steps = codes "steps" ∷ []
@@ -54,6 +66,7 @@ abbrev pub word_words : Word → List (List ℕ)
 word_words word.Program = codes "program" ∷ []
 word_words word.Names = codes "names" ∷ []
 word_words word.Vars = codes "vars" ∷ []
+word_words (word.Cells first count) = codes "cells" ∷ decimal first ∷ decimal count ∷ []
 word_words word.Releases = codes "releases" ∷ []
 word_words word.Digest = codes "digest" ∷ []
 word_words (word.Release number) = codes "release" ∷ decimal number ∷ []

@@ -73,11 +73,26 @@ impl Rights {
         }
     }
 
-    /// Whether it may send this record.
-    fn may_put(&self, said: &Record) -> bool
-        ensures { result ≡ spec.may_send_for self.now (origin_of said.now) }
+    /// Whether it may do whatever there is.
+    fn is_all(&self) -> bool
+        ensures { result ≡ spec.is_all self.now }
     {
-        self.may_send_for(said.origin())
+        match self {
+            Rights::Nothing => false,
+            Rights::Read => false,
+            Rights::Origins(_) => false,
+            Rights::All => true,
+        }
+    }
+
+    /// Whether it may send this record: one of all origins together wants all rights.
+    fn may_put(&self, said: &Record) -> bool
+        ensures { result ≡ spec.may_put self.now (origin_of said.now) }
+    {
+        match said.origin() {
+            Some(origin) => self.may_send_for(origin),
+            None => self.is_all(),
+        }
     }
 
     /// Whether it may send this line.

@@ -1,9 +1,13 @@
 //! Tokens: who may send what, as a file says it. They are kept and compared as digests.
 
-ghost use Rattle.std.specs.Prelude.{◌≡◌, ◌∷◌, ◌++◌, IfSome, OnErr, OnOk};
+ghost use Rattle.std.specs.Prelude.{◌≡◌, ◌==◌, ◌<◌, ◌∷◌, ◌++◌, ℕ, All, Bool, IfErr, IfNone, IfOk, IfSome, List, OnErr, OnOk};
+ghost use Rattle.std.specs.Prelude.{decimal, false, not, true};
 ghost use Rattle.std.specs.Str.{bytes_eq};
+ghost use Rattle.std.specs.List.{position};
+ghost use Rattle.warp_tag.specs.Limits.{most_origins};
 ghost use Rattle.sha2.specs.Sha256.{sha256};
-ghost use Rattle.warp_hub.specs.Tokens.{IsAdded, IsEntry, SaysRights, rights_of};
+ghost use Rattle.warp_hub.specs.Tokens.{AreEntries, IsAdded, IsEntry, IsFault, IsTaken, Marks, SaysOrigins, SaysRights};
+ghost use Rattle.warp_hub.specs.Tokens.{WhyNone, lines_of, rights_of, says_some};
 
 use crate::rights::{MOST_ORIGINS, Rights};
 use crate::words::is_token;
@@ -71,12 +75,28 @@ fn find_digest(entries: &[Entry], digest: &[u8; 32]) -> Option<Rights>
     found
 }
 
+/// The flag of the origin whose number this word is goes up; whether it is one.
+fn mark(origins: &mut [bool; MOST_ORIGINS], form: Form, word: &[u8]) -> bool
+    ensures marked { result ≡ true → Marks form word.now origins.old origins.new }
+    ensures none { result ≡ false → (origin : ℕ) → origin < most_origins form → word.now ≡ decimal origin → ⊥ }
+{
+    let Some(origin) = read_u32(word, form.most_origins() - 1) else {
+        return false;
+    };
+    origins[origin as usize] = true;
+    true
+}
+
 /// Marks the origins whose numbers stand in the text, with a comma between two; `None` where it is none such.
-fn read_origins(form: Form, text: &[u8]) -> Option<[bool; MOST_ORIGINS]> {
+fn read_origins(form: Form, text: &[u8]) -> Option<[bool; MOST_ORIGINS]>
+    ensures found { IfSome result (λ flags. SaysOrigins form text.now flags) }
+    ensures none { IfNone result ((flags : List Bool) → SaysOrigins form text.now flags → ⊥) }
+{
     let mut origins = [false; MOST_ORIGINS];
     for word in text.split(|byte| *byte == b',') {
-        let origin = read_u32(word, form.most_origins() - 1)?;
-        *origins.get_mut(origin as usize)? = true;
+        if !mark(&mut origins, form, word) {
+            return None;
+        }
     }
     Some(origins)
 }
@@ -86,7 +106,8 @@ const LONGEST_SAID: usize = 122;
 
 /// What the second word of a line says.
 fn read_rights(form: Form, text: &[u8]) -> Option<Rights>
-    ensures { IfSome result (SaysRights text.now) }
+    ensures found { IfSome result (SaysRights form text.now) }
+    ensures none { IfNone result ((given : Rights) → SaysRights form text.now given → ⊥) }
 {
     if is_keyword(text, b"*") {
         return Some(Rights::All);
@@ -97,25 +118,33 @@ fn read_rights(form: Form, text: &[u8]) -> Option<Rights>
     Some(Rights::Origins(read_origins(form, text)?))
 }
 
+/// Where the first space is.
+fn find_space(line: &[u8]) -> Option<usize>
+    ensures { result ≡ position (λ byte. byte == 32) line.now }
+{
+    line.iter().position(|byte| *byte == b' ')
+}
+
 /// What stands in front of the first space, and behind it.
 fn cut_at_space(line: &[u8]) -> Option<(&[u8], &[u8])>
-    ensures { IfSome result (λ cut. line.now ≡ cut.0.now ++ 32 ∷ cut.1.now) }
+    ensures found { IfSome result (λ cut. line.now ≡ cut.0.now ++ 32 ∷ cut.1.now) }
+    ensures first { IfSome result (λ cut. All (λ byte. byte == 32 ≡ false) cut.0.now) }
+    ensures none { IfNone result (All (λ byte. byte == 32 ≡ false) line.now) }
 {
-    let space = line.iter().position(|byte| *byte == b' ')?;
-    let (front, rest) = line.split_at(space);
-    let (first, behind) = rest.split_first()?;
-    if *first != b' ' {
-        return None;
-    }
-    Some((front, behind))
+    let space = find_space(line)?;
+    Some((&line[..space], &line[space + 1..]))
 }
 
 /// The token and the rights that a line has.
 fn read_entry(form: Form, line: &[u8]) -> Option<(&[u8], Rights)>
-    ensures { IfSome result (λ entry. IsEntry line.now entry.0.now entry.1) }
+    ensures found { IfSome result (λ entry. IsEntry form line.now entry.0.now entry.1) }
+    ensures none { IfNone result ((token : List ℕ) (given : Rights) → IsEntry form line.now token given → ⊥) }
 {
     let (token, text) = cut_at_space(line)?;
-    if !is_token(token) || token.len() > LONGEST_SAID {
+    if !is_token(token) {
+        return None;
+    }
+    if token.len() > LONGEST_SAID {
         return None;
     }
     let rights = read_rights(form, text)?;
@@ -123,7 +152,9 @@ fn read_entry(form: Form, line: &[u8]) -> Option<(&[u8], Rights)>
 }
 
 /// Whether a line says nothing.
-fn is_silent(line: &[u8]) -> bool {
+fn is_silent(line: &[u8]) -> bool
+    ensures { result ≡ not (says_some line.now) }
+{
     match line.first() {
         None => true,
         Some(byte) => *byte == b'#',
@@ -140,25 +171,41 @@ pub fn digest_of(token: &[u8]) -> [u8; 32]
 impl Tokens {
     /// Reads a file of tokens, for a program of this form: a line `TOKEN *`, `TOKEN read` or `TOKEN ORIGIN[,ORIGIN]..`
     /// each. Empty lines and those that begin with `#` are passed over.
-    pub fn read(alloc: Global, form: Form, text: &[u8]) -> Result<Tokens, TokensFault> {
+    pub fn read(alloc: Global, form: Form, text: &[u8]) -> Result<Tokens, TokensFault>
+        ensures tokens { IfOk result (AreEntries form (lines_of text.now)) }
+        ensures fault { IfErr result (IsFault form (lines_of text.now)) }
+    {
         let mut tokens = Tokens {
             entries: Vec::new(alloc),
         };
         let mut number: u32 = 0;
         for line in text.split(|byte| *byte == b'\n') {
             number = number.saturating_add(1);
-            if is_silent(line) {
-                continue;
+            if let Err(wrong) = tokens.take(form, line, number) {
+                return Err(wrong);
             }
-            tokens.add(form, line, number)?;
         }
         Ok(tokens)
     }
 
+    /// Takes on the line with this number, if it says something.
+    fn take(&mut self, form: Form, line: &[u8], number: u32) -> Result<(), TokensFault>
+        ensures taken { OnOk result (IsTaken form line.now self.old self.new) }
+        ensures said { OnErr result (says_some line.now ≡ true) }
+        ensures err { OnErr result (self.new ≡ self.old) }
+        ensures why { IfErr result (WhyNone form line.now number self.old) }
+    {
+        if is_silent(line) {
+            return Ok(());
+        }
+        self.add(form, line, number)
+    }
+
     /// Takes on the line with this number.
     fn add(&mut self, form: Form, line: &[u8], number: u32) -> Result<(), TokensFault>
-        ensures added { OnOk result (IsAdded line.now self.old self.new) }
+        ensures added { OnOk result (IsAdded form line.now self.old self.new) }
         ensures err { OnErr result (self.new ≡ self.old) }
+        ensures why { IfErr result (WhyNone form line.now number self.old) }
     {
         let Some((token, rights)) = read_entry(form, line) else {
             return Err(TokensFault::Line(number));

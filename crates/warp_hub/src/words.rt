@@ -1,14 +1,17 @@
 //! Words: the lines that a host knows beside those of a session. Each has one spelling.
 
-ghost use Rattle.std.specs.Prelude.{◌≡◌, ℕ, List, ◌≤◌, [], ◌∷◌, IfNone, IfSome, IsTrue, ◌↔◌, decimal, map};
+ghost use Rattle.std.specs.Prelude.{◌≡◌, ℕ, List, ◌≤◌, [], ◌∷◌, IfNone, IfSome, IsTrue, ◌↔◌, codes, decimal, map};
 ghost use Rattle.warp_tag.specs.Limits.{last_number};
-ghost use Rattle.warp_hub.specs.Words.{IsToken, IsWatch, IsWord, subject_name, token_spelling, watch_words};
+ghost use Rattle.warp_hub.specs.Words.{IsRange, IsToken, IsWatch, IsWord, subject_name, token_spelling, watch_words};
 ghost use Rattle.warp_hub.specs.Words.{word_spelling, word_words};
 ghost use Rattle.warp_hub.specs.declared.words.Subject.{Subject};
 ghost use Rattle.warp_hub.specs.declared.words.Watch.{Watch};
 ghost use Rattle.warp_hub.specs.declared.words.Word.{Word};
 
 use warp_record::{is_keyword, read_u32, split_words};
+
+/// The most variables that one line tells.
+const MOST_CELLS: u32 = 4_096;
 
 /// What can be watched.
 #[derive(Clone, Copy)]
@@ -17,8 +20,10 @@ pub enum Subject {
     Log,
     /// `released`: the released outputs that were shown.
     Released,
-    /// `vars`: all variables.
+    /// `vars`: the variables that are told.
     Vars,
+    /// `cells`: a range of variables.
+    Cells,
     /// `horizon`: the horizon.
     Horizon,
     /// `breach`: the broken origins.
@@ -34,8 +39,11 @@ pub enum Watch {
     Log(u32),
     /// `released I`: the released outputs from this number on, from 0.
     Released(u32),
-    /// `vars`: all variables, now and at each change.
+    /// `vars`: the variables that are told, now and at each change.
     Vars,
+    /// `cells K C`: so many variables from this one on, hidden ones and cells too, now and what changes of them; C is 1 to
+    /// 4,096.
+    Cells(u32, u32),
     /// `horizon`: the horizon, now and at each change.
     Horizon,
     /// `breach`: the broken origins, now and at each change.
@@ -51,8 +59,10 @@ pub enum Word {
     Program,
     /// `names`: the names of variables, inputs and outputs.
     Names,
-    /// `vars`: all variables.
+    /// `vars`: the variables that are told.
     Vars,
+    /// `cells K C`: so many variables from this one on, hidden ones and cells too; C is 1 to 4,096.
+    Cells(u32, u32),
     /// `releases`: how many released outputs are shown.
     Releases,
     /// `digest`: one number for the set of the log's records.
@@ -108,6 +118,8 @@ fn subject_of(word: &[u8]) -> Option<Subject>
         Some(Subject::Released)
     } else if is_keyword(word, b"vars") {
         Some(Subject::Vars)
+    } else if is_keyword(word, b"cells") {
+        Some(Subject::Cells)
     } else if is_keyword(word, b"horizon") {
         Some(Subject::Horizon)
     } else if is_keyword(word, b"breach") {
@@ -178,6 +190,31 @@ fn watch_from(word: &[u8], number: u32) -> Option<Watch>
     None
 }
 
+/// The first number and how many, 1 to 4,096, that these two words spell; `None` where they spell none.
+fn range_of(first: &[u8], count: &[u8]) -> Option<(u32, u32)>
+    ensures found { IfSome result (λ range. IsRange range.0 range.1
+        × ((first.now ≡ decimal range.0) × (count.now ≡ decimal range.1))) }
+    ensures none { IfNone result ((from : ℕ) (many : ℕ) → IsRange from many → first.now ≡ decimal from
+        → count.now ≡ decimal many → ⊥) }
+{
+    let first = read_index(first)?;
+    let count = read_u32(count, MOST_CELLS)?;
+    if count == 0 {
+        return None;
+    }
+    Some((first, count))
+}
+
+/// The word for so many variables from one on that these two words behind the first spell; `None` where there is none.
+fn cells_of(first: &[u8], count: &[u8]) -> Option<Word>
+    ensures found { IfSome result (λ said. IsWord said × (codes "cells" ∷ first.now ∷ count.now ∷ [] ≡ word_words said)) }
+    ensures none { IfNone result ((said : Word) → IsWord said →
+        codes "cells" ∷ first.now ∷ count.now ∷ [] ≡ word_words said → ⊥) }
+{
+    let (first, count) = range_of(first, count)?;
+    Some(Word::Cells(first, count))
+}
+
 /// The word that is spelled by these three; `None` where there is none.
 fn word_of_three(word: &[u8], what: &[u8], number: &[u8]) -> Option<Word>
     ensures found { IfSome result (λ said. IsWord said
@@ -185,10 +222,30 @@ fn word_of_three(word: &[u8], what: &[u8], number: &[u8]) -> Option<Word>
     ensures none { IfNone result ((said : Word) → IsWord said →
         word.now ∷ what.now ∷ number.now ∷ [] ≡ word_words said → ⊥) }
 {
+    if is_keyword(word, b"cells") {
+        return cells_of(what, number);
+    }
     if !is_keyword(word, b"watch") {
         return None;
     }
     Some(Word::Watch(watch_from(what, read_index(number)?)?))
+}
+
+/// The word that is spelled by these four; `None` where there is none.
+fn word_of_four(word: &[u8], what: &[u8], first: &[u8], count: &[u8]) -> Option<Word>
+    ensures found { IfSome result (λ said. IsWord said
+        × (word.now ∷ what.now ∷ first.now ∷ count.now ∷ [] ≡ word_words said)) }
+    ensures none { IfNone result ((said : Word) → IsWord said →
+        word.now ∷ what.now ∷ first.now ∷ count.now ∷ [] ≡ word_words said → ⊥) }
+{
+    if !is_keyword(word, b"watch") {
+        return None;
+    }
+    if !is_keyword(what, b"cells") {
+        return None;
+    }
+    let (first, count) = range_of(first, count)?;
+    Some(Word::Watch(Watch::Cells(first, count)))
 }
 
 /// The word that is spelled by these; `None` where there is none.
@@ -201,6 +258,7 @@ fn word_of(words: &[&[u8]]) -> Option<Word>
         [word] => word_of_one(word),
         [word, rest] => word_of_two(word, rest),
         [word, what, number] => word_of_three(word, what, number),
+        [word, what, first, count] => word_of_four(word, what, first, count),
         _ => None,
     }
 }

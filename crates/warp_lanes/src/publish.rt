@@ -2,7 +2,7 @@
 ghost use Rattle.std.specs.Prelude.{◌≡◌, ◌↔◌, ◌<◌, ◌≤◌};
 ghost use Rattle.std.specs.Prelude.{All, IfNone, IfSome, IsTrue, List, drop, false, length, min, take, true};
 ghost use Rattle.std.specs.List.Sorted.{IsPartitionPoint, IsPartitionedBy};
-ghost use Rattle.warp_tag.specs.Limits.{most_outputs};
+ghost use Rattle.warp_tag.specs.Limits.{most_outputs, widest};
 ghost use Rattle.warp_tag.specs.Moment.{is_before};
 ghost use Rattle.warp_tag.specs.Lists.{StartsWith};
 ghost use Rattle.warp_tag.specs.declared.out.Out.{Out};
@@ -80,7 +80,7 @@ pub(crate) fn shows_all<T: Timeline>(
 /// not begin them. That the first `known_rows` do is known, and they are not looked at.
 fn publish(released: &[Out], known_rows: usize, writer: &mut Writer, board: &Board) -> Published
     requires board { writer.old.board ≡ board.now }
-    requires ports { All (λ out. out.port < most_outputs) released.now }
+    requires ports { All (λ out. out.port < most_outputs widest) released.now }
     requires within { known_rows ≤ length writer.old.rows }
     requires known { writer.old.frozen ≡ false → StartsWith released.now (take known_rows writer.old.rows) }
     ensures { Publishes released.now writer.old result writer.new }
@@ -118,7 +118,7 @@ fn behind(list: &[Out], count: usize) -> &[Out]
 /// Appends what is missing of the list that the rows begin, up to the board's room.
 fn append_missing(released: &[Out], writer: &mut Writer, board: &Board)
     requires board { writer.old.board ≡ board.now }
-    requires ports { All (λ out. out.port < most_outputs) released.now }
+    requires ports { All (λ out. out.port < most_outputs widest) released.now }
     requires begins { StartsWith released.now writer.old.rows }
     ensures { writer.new
         ≡ record writer.old { rows = take (min (length released.now) (room_of board.now)) released.now } }
@@ -178,5 +178,6 @@ pub(crate) fn tag_of(record: &Record) -> Tag
         Record::Event { tag, .. } => tag,
         Record::Withdraw { tag, .. } => tag,
         Record::Announce { tag, .. } => tag,
+        Record::Joint { tag, .. } => tag,
     }
 }

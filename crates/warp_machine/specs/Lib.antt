@@ -2,3 +2,4 @@ pub mod Moving
 pub mod Keeping
 pub mod Operating
 pub mod Places
+pub mod Peering

@@ -1,5 +1,8 @@
 -- The lines of an operator, and which notes one is told at which level.
 use Rattle.std.specs.Prelude.{◌≡◌, ℕ, List, ◌++◌, codes}
+use Rattle.warp_tag.specs.declared.form.Form.{Form}
+use Rattle.warp_hub.specs.Tokens.{AreEntries, lines_of}
+use Rattle.warp_hub.specs.declared.tokens.Entry.{Entry}
 use Rattle.warp_service.specs.declared.notes.Note.{Note}
 use Rattle.warp_service.specs.declared.notes.Note.TheVariants as note
 use Rattle.warp_machine.specs.declared.operating.Level.{Level}
@@ -53,3 +56,7 @@ note_level (note.Peer peer news left_out) = level.Warn
 note_level (note.Started clients wanted has_tokens) = level.Info
 note_level note.InputEnded = level.Info
 note_level note.Stopped = level.Info
+
+-- these are the entries of a text of tokens, for programs of some form
+abbrev pub AreTokens : List ℕ → List Entry → Type 0
+AreTokens text entries = (form : Form) × AreEntries form (lines_of text) entries

@@ -5,7 +5,7 @@ ghost use Rattle.warp_clients.specs.Steps.{Renews};
 ghost use Rattle.warp_hub.specs.declared.tokens.Entry.{Entry};
 ghost use Rattle.warp_replica.specs.Answered.{facts_of};
 ghost use Rattle.warp_machine.specs.Moving.{IsHearing, MovedWith, Stepped, clients_in};
-ghost use Rattle.warp_machine.specs.Operating.{IsNoWord, note_level, tells, word_line};
+ghost use Rattle.warp_machine.specs.Operating.{AreTokens, IsNoWord, note_level, tells, word_line};
 
 use crate::conn::Want;
 use crate::machine::Machine;
@@ -192,7 +192,7 @@ impl<T: Timeline> Machine<T> {
     /// The file of tokens was read again, and has this text, or it could not be. Who has said a token that is there no more,
     /// or by which other things may be sent now, is closed.
     pub fn tokens_read(&mut self, text: Result<&[u8], Undone>, now: u64) -> OperatorAnswer
-        ensures { (clients_in self.new ≡ clients_in self.old) ⊎ ((entries : List Entry) ×
+        ensures { (clients_in self.new ≡ clients_in self.old) ⊎ ((entries : List Entry) × IfOk text.entry (λ bytes. AreTokens bytes.now entries) ×
             Stepped (facts_of T.settled T.refused T.floor T.SLACK) (Renews entries) (clients_in self.old) (clients_in self.new)) }
     {
         self.now = now;
@@ -212,7 +212,9 @@ impl<T: Timeline> Machine<T> {
     }
 
     /// The tokens in this text of their file.
-    fn tokens_in(&self, text: &[u8]) -> Result<Tokens, Undone> {
+    fn tokens_in(&self, text: &[u8]) -> Result<Tokens, Undone>
+        ensures { IfOk result (AreTokens text.now) }
+    {
         let program = self.clients.room().replica().program();
         match read_tokens(self.alloc, program.form(), program.origins(), text) {
             Ok(tokens) => Ok(tokens),

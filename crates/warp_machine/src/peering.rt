@@ -3,6 +3,7 @@
 ghost use Rattle.std.specs.Prelude.{◌≡◌, ℕ};
 ghost use Rattle.warp_replica.specs.Answered.{facts_of};
 ghost use Rattle.warp_machine.specs.Moving.{HearsOf, IsPassing, MayWriteOf, MovedWith, clients_in};
+ghost use Rattle.warp_machine.specs.Peering.{name_of, peer_in, said_of, wants_of};
 
 use crate::action::Action;
 use crate::machine::Machine;
@@ -91,7 +92,9 @@ fn is_told(level: Level, action: &Action) -> bool {
 
 impl<T: Timeline> Machine<T> {
     /// The name of the peer of this number, as it was given; nothing where there is no such peer.
-    pub fn peer_name(&self, peer: u16) -> &str {
+    pub fn peer_name(&self, peer: u16) -> &str
+        ensures { result.now ≡ name_of (peer_in self.entry.now peer) }
+    {
         match self.peers.get(peer as usize) {
             Some(followed) => followed.peer.name(),
             None => "",
@@ -119,7 +122,9 @@ impl<T: Timeline> Machine<T> {
     }
 
     /// Whether bytes of the connection of this number to a peer are wanted: from `PeerAction::Hear` on, until its lines wait.
-    pub fn peer_wants(&self, peer: u16, number: u64) -> bool {
+    pub fn peer_wants(&self, peer: u16, number: u64) -> bool
+        ensures { result ≡ wants_of number (peer_in self.entry.now peer) }
+    {
         match self.peers.get(peer as usize) {
             Some(followed) => followed.peer.wants(number),
             None => false,
@@ -147,7 +152,9 @@ impl<T: Timeline> Machine<T> {
     }
 
     /// The bytes to be sent by the connection of this number to a peer.
-    pub fn peer_output(&self, peer: u16, number: u64) -> &[u8] {
+    pub fn peer_output(&self, peer: u16, number: u64) -> &[u8]
+        ensures { result.now ≡ said_of number (peer_in self.entry.now peer) }
+    {
         match self.peers.get(peer as usize) {
             Some(followed) => followed.peer.output(number),
             None => b"",

@@ -194,7 +194,7 @@ impl<T: Timeline> Machine<T> {
         ensures { Moved (facts_of T.settled T.refused T.floor T.SLACK) self.old.clients self.new.clients }
     {
         // From the last on: what stands in the place of one that left was looked at.
-        let count = self.watchers.count(pushing.subject);
+        let count = self.watchers.count(pushing);
         for behind in 0..count {
             self.push_at(count - behind - 1, pushing);
         }
@@ -205,7 +205,7 @@ impl<T: Timeline> Machine<T> {
         ensures { Moved (facts_of T.settled T.refused T.floor T.SLACK) self.old.clients self.new.clients }
     {
         if !self.push_to_place(at, pushing) {
-            self.watchers.drop_at(pushing.subject, at);
+            self.watchers.drop_at(pushing, at);
         }
     }
 
@@ -213,7 +213,7 @@ impl<T: Timeline> Machine<T> {
     fn push_to_place(&mut self, at: usize, pushing: &Pushing) -> bool
         ensures { Moved (facts_of T.settled T.refused T.floor T.SLACK) self.old.clients self.new.clients }
     {
-        let Some(who) = self.watchers.watcher(pushing.subject, at) else {
+        let Some(who) = self.watchers.watcher(pushing, at) else {
             return false;
         };
         self.push_to(who, pushing)

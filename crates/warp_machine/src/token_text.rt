@@ -1,5 +1,8 @@
 //! The text of a file of tokens of clients: the tokens in it, or which line is refused, and why.
 
+ghost use Rattle.std.specs.Prelude.{IfOk};
+ghost use Rattle.warp_hub.specs.Tokens.{AreEntries, lines_of};
+
 use std::alloc::Global;
 use warp_events::{BadTokens, TokenWhy};
 use warp_hub::{Tokens, TokensFault};
@@ -20,12 +23,9 @@ pub enum NoTokens {
 
 /// The tokens in this text, for a program of this form with so many origins: one at least, and no origin that the program
 /// does not have.
-pub fn read_tokens(
-    alloc: Global,
-    form: Form,
-    origins: u32,
-    text: &[u8],
-) -> Result<Tokens, NoTokens> {
+pub fn read_tokens(alloc: Global, form: Form, origins: u32, text: &[u8]) -> Result<Tokens, NoTokens>
+    ensures { IfOk result (AreEntries form (lines_of text.now)) }
+{
     match Tokens::read(alloc, form, text) {
         Ok(tokens) => match strange_line(text, origins) {
             None => Ok(tokens),

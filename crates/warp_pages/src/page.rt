@@ -5,7 +5,7 @@ use http::HeaderValue;
 /// What the page may do in a browser: its own style and script alone, told by their SHA-256, and connect to its host.
 const POLICY: &str = "\
 default-src 'none'; \
-script-src 'sha256-QdUXZyE/owLmUjSqgrVdirTqCWBp94ZJvgumCzdYXzE='; \
+script-src 'sha256-Ab+IEyx2HAP/ZxRdcfYkxKCOBSLYQASjeCmdOvx4n2A='; \
 style-src 'sha256-w6wrpSjQQo2ITNrYMfX6Z7+uynafgFVJ8u9XhCCqJFo='; \
 connect-src 'self'; \
 img-src data:; \
@@ -44,6 +44,11 @@ const PAGE: &[u8] = br##"<!doctype html>
 <section aria-labelledby="h-vars">
 <h2 id="h-vars">Variables</h2>
 <div class="box" id="vars" tabindex="0" role="region" aria-labelledby="h-vars"></div>
+</section>
+<section aria-labelledby="h-board" id="boards" hidden>
+<h2 id="h-board">Boards</h2>
+<p class="row"><label>Show <select id="board"></select></label></p>
+<canvas id="cells" role="img" aria-label="No cells yet"></canvas>
 </section>
 <section aria-labelledby="h-time" class="wide">
 <h2 id="h-time">Timeline</h2>
@@ -194,11 +199,27 @@ throw error
 })
 }
 }
+const PLACED = /^(.+?)((?:\[\d+\])+)$/
+function placed(text){
+const [,name=text,numbers=""]=PLACED.exec(text)??[]
+return { name, numbers: (numbers.match(/\d+/g) ?? []).map(Number) }
+}
+function arrayOf([label,first,count]){
+const{name,numbers}=placed(label)
+const isSided=numbers.length>0&&numbers.reduce((one,other)=>one * other)===count
+return isSided?{name,first,count,sides:numbers}:{name:label,first,count,sides:[count]}
+}
 class Names{
-constructor({vars=[],inputs=[],outputs=[]}={}){
+constructor({vars=[],inputs=[],outputs=[],arrays=[],hidden=[]}={}){
 this.vars=vars
+this.hidden=hidden
+this.told=vars.filter((_,at)=>!hidden.includes(at))
+this.arrays=arrays.map(arrayOf)
 this.inputs=inputs.map(([origin,name])=>({origin,name}))
 this.outputs=outputs
+}
+array(name){
+return this.arrays[number("array",name,this.arrays.map(it=>it.name))]
 }
 owner(input){
 const found=this.inputs[input]
@@ -211,6 +232,12 @@ if(typeof name==="number")return name
 const at=names.indexOf(name)
 if (at < 0) throw new RangeError(`no ${kind} is called "${name}"; there are: ${names.join(", ")}`)
 return at
+}
+function whole(name,value,most,least=0){
+if (value === undefined || value === null) throw new TypeError(`${name} is missing: say it as { ${name}: 9 }`)
+if (typeof value !== "bigint" && !Number.isSafeInteger(value)) throw new RangeError(`${name} is ${value}, and no whole number`)
+if (value < least || value > most) throw new RangeError(`${name} is ${value}: it may be ${least} to ${most}`)
+return value
 }
 const within=(most,least=0)=>word=>{
 const number = /^(0|[1-9]\d{0,15})$/.test(word) ? Number(word) : NaN
@@ -228,10 +255,10 @@ if(typeof text==="string"&&form.test(text))return text
 throw new SyntaxError("another text is wanted")
 }
 const textOf = matching(/./)
-const [MOST_VARS,MOST_PORTS,MOST_PENDING]=[256,64,256]
+const [MOST_VARS,MOST_PORTS,MOST_PENDING,MOST_ARRAYS,MOST_VALUES,MOST_CELLS]=[1_024,256,256,256,66_560,4_096]
 const PARTS={
-log:within(1e7),place:within(1e7,1),events:within(1e7),withdrawn:within(1e7),rows:within(2 ** 20),watched:within(6),
-origin:within(63),input:within(63),output:within(63),time:within(15_625_000),micro:within(255),index:within(2 ** 32 - 1),
+log:within(1e7),place:within(1e7,1),events:within(1e7),withdrawn:within(1e7),rows:within(2 ** 20),watched:within(7),
+origin:within(63),input:within(255),output:within(255),time:within(15_625_000),micro:within(255),index:within(2 ** 32 - 1),
 count:within(Number.MAX_SAFE_INTEGER),number:within(99,1),value:integer,frozen:flag,broken:flag,
 version: within(99, 1), fingerprint: matching(/^[0-9a-f]{64}$/), digits: matching(/^[0-9a-f]{32}$/),
 }
@@ -255,14 +282,19 @@ event:fields("origin time micro input value"),
 withdraw:fields("origin time micro"),
 announce:fields("origin time micro events withdrawn"),
 }
+const ALL=fields("time micro events withdrawn")
 function recordOf([kind,...words]){
+if(kind==="announce"&&words[0]==="*")return{kind,origin:null,...ALL(words.slice(1))}
 if(!Object.hasOwn(RECORDS,kind))throw new SyntaxError("no record")
 return{kind,...RECORDS[kind](words)}
 }
-const jsonOf = text => JSON.parse(text.replace(/([:,[])(-?\d[\d.eE+-]*)/g, '$1"$2"'))
+const jsonOf = text => JSON.parse(text.replace(/"(?:[^"\\]|\\.)*"|-?\d[\d.eE+-]*/g, it => (it[0] === '"' ? it : `"${it}"`)))
 function namesOf(text){
-const{vars,inputs,outputs}=jsonOf(text)
+const{vars,inputs,outputs,arrays=[],hidden=[]}=jsonOf(text)
+const [numberOf,countOf]=[within(MOST_VALUES),within(2 ** 16,1)]
 return new Names({
+arrays:listOf(arrays,MOST_ARRAYS,([name,first,count])=>[textOf(name),numberOf(first),countOf(count)]),
+hidden:listOf(hidden,MOST_VARS,numberOf),
 vars:listOf(vars,MOST_VARS,textOf),
 inputs:listOf(inputs,MOST_PORTS,([origin,name])=>[PARTS.origin(origin),textOf(name)]),
 outputs:listOf(outputs,MOST_PORTS,textOf),
@@ -273,6 +305,7 @@ taken:words=>({...PLACE(words),isNew:true}),
 known:words=>({...PLACE(words),isNew:false}),
 var:fields("log value"),
 vars:([log,...values])=>({...LOG([log]),values:listOf(values,MOST_VARS,integer)}),
+cells:([log,first,...values])=>({...LOG([log]),first:within(MOST_VALUES)(first),values:listOf(values,MOST_CELLS,integer)}),
 outputs:COUNTED,
 released:COUNTED,
 lost:COUNTED,
@@ -290,7 +323,7 @@ watching:fields("count:watched"),
 program:fields("version fingerprint"),
 names:words=>namesOf(words.join(" ")),
 may:words=>{
-if (!/^(\*|read)$/.test(words)) listOf(words, MOST_PORTS, PARTS.origin)
+if (!/^(\*|read)$/.test(words)) listOf(words, 64, PARTS.origin)
 return{may:words.join(" ")}
 },
 counts:words=>{
@@ -329,7 +362,7 @@ return{
 ...TAG(tag),
 given:valuesOf(given,MOST_PORTS),
 due:listOf(due,MOST_PENDING,({target,value})=>({target:textOf(target),value:integer(value)})),
-changed:valuesOf(changed,MOST_VARS),
+changed:valuesOf(changed,MOST_VALUES),
 outputs:valuesOf(outputs,MOST_PORTS),
 pending:within(MOST_PENDING)(pending),
 }
@@ -339,28 +372,41 @@ log:([place,...record])=>({place:PARTS.place(place),record:recordOf(record)}),
 released:fields("index time micro output value"),
 frozen:words=>({...NOTHING(words),frozen:true}),
 vars:READERS.vars,
+cells:READERS.cells,
 horizon:HORIZON,
-breach:([log,...origins])=>({...LOG([log]),origins:listOf(origins,MOST_PORTS,PARTS.origin)}),
+breach:([log,...origins])=>{
+const jointly=origins.at(-1)==="*"
+return{...LOG([log]),origins:listOf(jointly?origins.slice(0,-1):origins,64,PARTS.origin),jointly}
+},
 step:words=>executedOf(words.join(" ")),
 skipped:fields("skipped:count"),
 }
-const STATES=new Set(["vars","horizon","breach"])
+const STATES=new Set(["vars","cells","horizon","breach"])
 const SUBJECT_OF={frozen:"released",step:"steps",skipped:"steps"}
 const SUBJECTS=[...new Set(Object.keys(PUSHES).map(it=>SUBJECT_OF[it]??it))]
+const typed=values=>
+values.every(it=>Number.isSafeInteger(Number(it)))?Float64Array.from(values,Number):BigInt64Array.from(values)
 class Watch{
 #client
 #callback
 #waiting=new Queue()
 #wanted=new Queue()
 #isOver=false
-constructor(client,what,next,callback){
+#cells=[]
+constructor(client,what,next,count,callback){
 this.what=what
 this.next=next
+this.count=count
 this.#client=client
 this.#callback=callback
 }
 get line(){
-return this.next === null ? `watch ${this.what}` : `watch ${this.what} ${this.next}`
+return ["watch",this.what,this.next,this.count].filter(it=>it!==null).join(" ")
+}
+whole({log,first,values}){
+if(first===this.next&&values.length>=this.#cells.length)this.#cells=values
+else this.#cells.splice(first - this.next,values.length,...values)
+return{log,first:this.next,values:typed(this.#cells)}
 }
 push(value){
 const at=value.place??value.index
@@ -585,12 +631,12 @@ const [kind,...words]=text.split(" ")
 if(!Object.hasOwn(PUSHES,kind))return
 const value=this.#read(kind,words,text)
 if(!value)return
-if(kind==="vars")value.values.forEach((it,at)=>(this.vars[this.names.vars[at]??at]=it))
+if(kind==="vars")value.values.forEach((it,at)=>(this.vars[this.names.told[at]??at]=it))
 this.#hasBrought||=kind==="log"||kind==="released"
 const watch=this.#watches.get(SUBJECT_OF[kind]??kind)
 if(!watch)return
 this.#owed=0
-watch.push(value)
+watch.push(kind==="cells"?watch.whole(value):value)
 }
 #read(kind,words,text){
 try{
@@ -619,14 +665,26 @@ return this.ask(`output ${index}`)
 lost(){
 return this.ask("lost")
 }
+cells(first,count){
+return this.ask(`cells ${first} ${count}`)
+}
+async array(name){
+const{first,count}=this.names.array(name)
+const starts = Array.from({ length: Math.ceil(count / MOST_CELLS) }, (_, at) => first + at * MOST_CELLS)
+const pieces=await Promise.all(starts.map(at=>this.cells(at,Math.min(MOST_CELLS,first + count - at))))
+const values=pieces.flatMap(it=>it.values)
+return typed(values)
+}
 program(){
 return this.ask("program")
 }
-watch(what,callback=null,{from={log:1,released:0}[what]??null}={}){
+watch(what,callback=null,{from={log:1,released:0}[what]??null,count=null,array=null}={}){
 number("subject of a watch",what,SUBJECTS)
-if (from !== null && what !== "log" && what !== "released") throw new RangeError(`a watch of ${what} has no start`)
+if(array!==null)({first:from,count}=this.names.array(array))
+if(what==="cells")from=whole("from",from,MOST_VALUES),count=whole("count",count,MOST_CELLS,1)
+else if (count !== null || (from !== null && what !== "log" && what !== "released")) throw new RangeError(`a watch of ${what} has no start`)
 this.#watches.get(what)?.end()
-const watch=new Watch(this,what,from,callback)
+const watch=new Watch(this,what,from,count,callback)
 this.#watches.set(what,watch)
 watch.started=this.#put(watch.line,watch)
 watch.started.catch(()=>{
@@ -647,7 +705,7 @@ function recordText(record,names){
 if (record.kind === "withdraw") return `origin ${record.origin} withdraws`
 if (record.kind === "event") return `${names.inputs[record.input]?.name ?? `input ${record.input}`} = ${record.value}`
 const withdrawn = record.withdrawn ? `, ${record.withdrawn} withdrawn` : ""
-return `origin ${record.origin} announces ${record.events} ${record.events === 1 ? "event" : "events"}${withdrawn}`
+return `${record.origin === null ? "all origins together announce" : `origin ${record.origin} announces`} ${record.events} ${record.events === 1 ? "event" : "events"}${withdrawn}`
 }
 function answerText(answer){
 if (answer.isNew) return `taken ${answer.place}: it is new, and stands at place ${answer.place} of the log.`
@@ -737,11 +795,11 @@ if(this.#names.event.size + this.#names.withdraw.size + this.#waiting.length>MOS
 #isBehind(tag){
 return this.isLost||(this.tag!==null&&orderOf(tag,this.tag)<0)
 }
-#takeName({kind,time,micro}){
+#takeName({kind,origin,time,micro}){
 const tag={time,micro}
-const names=this.#names[kind]
-if(this.#isBehind(tag)||names.has(tagText(tag)))return
-names.set(tagText(tag),tag)
+const [names, name] = [this.#names[kind], `${origin} ${tagText(tag)}`]
+if(this.#isBehind(tag)||names.has(name))return
+names.set(name,tag)
 for(const word of this.#waiting)if(orderOf(tag,word.tag)<0)word.missing[kind] -=1
 this.#goOn()
 }
@@ -790,7 +848,7 @@ this.records.clear()
 this.acts.clear()
 this.released.clear()
 Object.assign(this,{log:0,newest:null,late:0,lastLate:null,horizon:null,values:[],frozen:false})
-Object.assign(this,{changed:new Set(),broken:new Set(),origins:new Map()})
+Object.assign(this,{changed:new Set(),broken:new Set(),origins:new Map(),all:new Reach(),cells:[]})
 Object.assign(this,{outputs:0,lost:0,asked:[],askedFrom:0})
 this.clearSteps()
 }
@@ -808,8 +866,10 @@ this.lastRollback=rollback
 takeRecord({place,record}){
 if(place!==this.log + 1)return
 this.log=place
-if(!this.origins.has(record.origin))this.origins.set(record.origin,new Reach())
-this.origins.get(record.origin).take(record)
+const{origin}=record
+if(origin!==null&&!this.origins.has(origin))this.origins.set(origin,new Reach())
+this.origins.get(origin)?.take(record)
+if(origin===null||record.kind!=="announce")this.all.take(record)
 const item={place,record,back:null}
 this.records.add(item)
 if(record.kind==="announce")return
@@ -834,8 +894,8 @@ this.values=values
 takeHorizon({time,micro}){
 this.horizon={time,micro}
 }
-takeBreach({origins}){
-this.broken=new Set(origins)
+takeBreach({origins,jointly}){
+this.broken=new Set(jointly?[...origins,"*"]:origins)
 }
 async askOpen(client){
 const [{count},lost]=await Promise.all([client.outputs(),client.lost()])
@@ -848,7 +908,7 @@ get open(){
 return this.asked.slice(this.released.added - this.askedFrom)
 }
 reachOf(origin){
-const{announced=null,tag=null,isLost=false}=this.origins.get(origin)??{}
+const{announced=null,tag=null,isLost=false}=(origin==="*"?this.all:this.origins.get(origin))??{}
 const isLeast=isLost||this.broken.has(origin)
 const isBehind=isLeast&&this.horizon&&(!tag||orderOf(tag,this.horizon)<0)
 return{announced,tag:isBehind?this.horizon:tag,isLeast}
@@ -858,8 +918,9 @@ if(this.log>MOST)return null
 const names={event:new Set(),withdraw:new Set()}
 for(let age=0; age<this.records.length; age +=1){
 const{record}=this.records.at(age)
-const isCounted=record.origin===origin&&record.kind in names&&orderOf(record,tag)<0
-if (isCounted) names[record.kind].add(`${record.time}.${record.micro}`)
+const isOf=origin==="*"||record.origin===Number(origin)
+const isCounted=isOf&&record.kind in names&&orderOf(record,tag)<0
+if (isCounted) names[record.kind].add(`${record.origin} ${tagText(record)}`)
 }
 return{events:names.event.size,withdrawn:names.withdraw.size}
 }
@@ -1023,17 +1084,67 @@ horizon ? `the horizon at ${tagText(horizon)}` : "no horizon",
 late ? `${lateCount} came late, the last went from ${tagText(late.back)} back to ${tagText(late.record)}` : "none came late",
 ].join(", ")
 }
+const MOST_COLOURS=12
+const LARGEST=18
+const COLOURS=["accent","good","late","ink"]
+function countsOf(values){
+const counts=new Map()
+for(const value of values)counts.set(value,(counts.get(value)??0)+ 1)
+return new Map([...counts].sort(([one],[other])=>(one<other?-1:1)))
+}
+function boardText({name,sides:[rows,columns]},values){
+const counts=countsOf(values)
+const all = [...counts].slice(0, MOST_COLOURS).map(([value, count]) => `${count} of ${value}`)
+return `${name}, ${rows} rows of ${columns}: ${all.join(", ")}${counts.size > MOST_COLOURS ? " and others" : ""}`
+}
+class Board{
+#canvas
+#pen
+constructor(canvas){
+this.#canvas=canvas
+this.#pen=canvas.getContext("2d")
+}
+draw({sides:[rows,columns]},values){
+const size = Math.max(2, Math.min(LARGEST, Math.floor((this.#canvas.parentElement.clientWidth - 24) / columns)))
+const ratio=window.devicePixelRatio||1
+Object.assign(this.#canvas,{width:Math.round(columns * size * ratio),height:Math.round(rows * size * ratio)})
+Object.assign(this.#canvas.style, { width: `${columns * size}px`, height: `${rows * size}px` })
+this.#pen.setTransform(ratio,0,0,ratio,0,0)
+const colours=this.#colours(values)
+const gap=size>5?1:0
+values.forEach((value,at)=>{
+this.#pen.fillStyle=colours(value)
+this.#pen.fillRect((at % columns) * size, Math.floor(at / columns) * size, size - gap, size - gap)
+})
+}
+#colours(values){
+const style=getComputedStyle(document.documentElement)
+const named = name => style.getPropertyValue(`--${name}`)
+const kinds=[...countsOf(values).keys()].map(Number)
+const [least,most]=[kinds[0],kinds.at(-1)]
+if (kinds.length > MOST_COLOURS) return value => `hsl(210 60% ${12 + (76 * (Number(value) - least)) / (most - least)}%)`
+const places=new Map(kinds.filter(it=>it!==0).map((it,at)=>[it,at]))
+return value=>{
+const at=places.get(Number(value))
+return named(at === undefined ? "rule" : COLOURS[at]) || `hsl(${at * 47} 55% 50%)`
+}
+}
+}
 const PAUSE=400
 const at=id=>document.getElementById(id)
 const put=(id,text)=>at(id).textContent!==text&&(at(id).textContent=text)
 const replica=new Replica()
 const timeline=new Timeline(at("timeline"))
+const board=new Board(at("cells"))
+const MOST_WATCHED=4096
+const EVERYBODY="*"
 const limits={log:"",origins:0}
 let client
 let token
 let program
 let watches=[]
 let steps=null
+let cells=null
 let isDrawn=false
 let isAsking=false
 let mayTellLate=true
@@ -1041,7 +1152,7 @@ const rows={
 records:new Rows(at("records"),age=>recordRow(listed().at(age))),
 released:new Rows(at("released"),age=>outputRow(replica.released.at(age))),
 vars:new Rows(at("vars"),number=>({
-words: ["", client.names.vars[number] ?? `variable ${number}`, `${replica.values[number]}`],
+words: ["", client.names.told[number] ?? `variable ${number}`, `${replica.values[number]}`],
 kind:replica.changed.has(number)?"new":"",
 })),
 }
@@ -1065,6 +1176,7 @@ rows.records.show(listed().length,listed().added)
 rows.released.show(replica.released.length,replica.released.added)
 rows.vars.show(replica.values.length)
 drawOpen()
+drawBoard()
 drawTimeline()
 tellLate()
 tellAgain()
@@ -1088,13 +1200,13 @@ return [tagText(announced), `${isLeast ? "at least " : ""}${tag ? tagText(tag) :
 }
 function drawOrigins(){
 const body=at("origins")
-const origins=originsNow()
+const origins=replica.all.announced?[...originsNow(),EVERYBODY]:originsNow()
 while(body.childElementCount>origins.length)body.lastElementChild.remove()
 while(body.childElementCount<origins.length)body.insertRow().append(...[0,1,2,3].map(()=>document.createElement("td")))
 origins.forEach((origin,number)=>{
 const isBroken=replica.broken.has(origin)
 const inputs=client.names.inputs.filter(it=>it.origin===origin).map(it=>it.name)
-const words = [`${origin}${isBroken ? ", broken" : ""}`, inputs.join(", "), ...reachWords(replica.reachOf(origin))]
+const words = [`${origin === EVERYBODY ? "all" : origin}${isBroken ? ", broken" : ""}`, inputs.join(", "), ...reachWords(replica.reachOf(origin))]
 body.children[number].className=isBroken?"bad":""
 words.forEach((word,cell)=>(body.children[number].children[cell].textContent=word))
 })
@@ -1106,6 +1218,22 @@ const shown=open.length?open.map(outputRow):[{words:["","none",""]}]
 while(list.childElementCount>shown.length)list.lastElementChild.remove()
 while(list.childElementCount<shown.length)list.append(rowOfWords())
 shown.forEach((row,number)=>fillRow(list.children[number],row))
+}
+const boards=()=>client.names.arrays.filter(it=>it.sides.length===2&&it.count<=MOST_WATCHED)
+function drawBoard(){
+const shown=boards().find(it=>it.name===at("board").value)
+if(!shown||replica.cells.length!==shown.count)return
+board.draw(shown,replica.cells)
+at("cells").setAttribute("aria-label",boardText(shown,replica.cells))
+}
+function watchBoard(){
+cells?.stop().catch(()=>{})
+replica.cells=[]
+const array=at("board").value
+cells=array?client.watch("cells",push=>{
+replica.cells=push.values
+touch()
+},{array}):null
 }
 function drawTimeline(){
 const length=Math.min(Number(at("span").value),replica.records.length)
@@ -1192,6 +1320,9 @@ TAKES[what](push)
 askOpen()
 }))
 watchSteps()
+choose("board", boards().map(({ name, sides }) => [name, `${name}, ${sides.join(" by ")}`]))
+at("boards").hidden=!at("board").value
+watchBoard()
 choose("input", client.names.inputs.map((it, number) => [number, `${it.name} (origin ${it.origin})`]))
 askOpen()
 readLimits().catch(()=>{})
@@ -1206,7 +1337,8 @@ const metrics=await(await fetch("metrics",{headers})).text()
 limits.log = /^warpd_log_records_limit (\d+)/m.exec(metrics)?.[1] ?? ""
 const file=await(await fetch("program.json",{headers})).json()
 limits.origins=Number(file.origins)||0
-choose("origin", originsNow().map(origin => [origin, `${origin}`]))
+const all=program?.version>3?[[EVERYBODY,"all together"]]:[]
+choose("origin", [...originsNow().map(origin => [origin, `${origin}`]), ...all])
 touch()
 }
 function choose(id,options){
@@ -1233,8 +1365,10 @@ function warn(){
 const kind=at("kind").value
 const origin=kind==="event"?client.names.inputs[at("input").value]?.origin:Number(at("origin").value)
 const word=kind!=="announce"&&at("time").value&&replica.origins.get(origin)?.announced
-const isLate=word&&orderOf({time:at("time").value,micro:at("micro").value},word)<0
-put("warning", isLate ? `Origin ${origin} announced ${tagText(word)}: this breaks its word.` : "")
+const isLate=it=>it&&orderOf({time:at("time").value,micro:at("micro").value},it)<0
+const common=kind!=="announce"&&at("time").value&&replica.all.announced
+const [who, tag] = isLate(word) ? [`Origin ${origin}`, word] : ["All origins together", common]
+put("warning", isLate(tag) ? `${who} announced ${tagText(tag)}: this breaks that word.` : "")
 }
 function tellAnswer(text,kind=""){
 put("answer",text)
@@ -1253,7 +1387,7 @@ tellAnswer(error instanceof Refused ? `${error.message}. Nothing was changed.` :
 }
 function countFromLog(){
 const tag={time:Number(at("time").value),micro:Number(at("micro").value)}
-const counts=replica.countBefore(Number(at("origin").value),tag)
+const counts=replica.countBefore(at("origin").value,tag)
 if (!counts) return tellAnswer(`The log is longer than the ${MOST} records that this page keeps: count elsewhere.`, "bad")
 at("events").value=counts.events
 at("withdrawn").value=counts.withdrawn
@@ -1263,6 +1397,7 @@ at("kind").addEventListener("change",showFields)
 at("count").addEventListener("click",countFromLog)
 at("send").addEventListener("input",touch)
 at("steps").addEventListener("change",watchSteps)
+at("board").addEventListener("change",watchBoard)
 for(const id of ["span","words"])at(id).addEventListener("change",touch)
 at("who").addEventListener("submit",event=>{
 event.preventDefault()

@@ -4,6 +4,7 @@ use Rattle.std.proofs.lemmas.List.{append_assoc, append-nil, at_drop_more, drop_
 use Rattle.warp_step.specs.declared.parts.ProgramInput.{ProgramInput}
 use Rattle.warp_prog.specs.Explain.{counted, input_lines, number_lines, origin_at}
 use Rattle.warp_prog.specs.File.{Word}
+use Rattle.warp_prog.proofs.CanonicalLemmas.{joined, joined5}
 
 -- one label more
 pub lines_more : {X : Type 0} (shown : X → Word) (word text new : List ℕ) (labels : List X) (i : ℕ) (l : X)
@@ -39,18 +40,8 @@ pub inputs_all : {X : Type 0} (shown : X → Word) (text : List ℕ) (labels : L
 inputs_all shown text labels inputs i past =
     ap (λ ss. text ++ input_lines inputs i (map shown ss)) (drop_all i labels past) ∙ append-nil text
 
--- three parts, one behind another
-pub three : (t a b c t1 t2 t3 : List ℕ) → t1 ≡ t ++ a → t2 ≡ t1 ++ b → t3 ≡ t2 ++ c → t3 ≡ t ++ ((a ++ b) ++ c)
-three t a b c t1 t2 t3 p q r =
-    let two = q ∙ ap (λ x. x ++ b) p ∙ append_assoc t a b in
-    r ∙ ap (λ x. x ++ c) two ∙ append_assoc t (a ++ b) c
-
--- six parts, one behind another
-pub six : (t a b c d e f t1 t2 t3 t4 t5 t6 : List ℕ) → t1 ≡ t ++ a → t2 ≡ t1 ++ b → t3 ≡ t2 ++ c → t4 ≡ t3 ++ d → t5 ≡ t4 ++ e → t6 ≡ t5 ++ f
-    → t6 ≡ t ++ (((((a ++ b) ++ c) ++ d) ++ e) ++ f)
-six t a b c d e f t1 t2 t3 t4 t5 t6 p q r s u v =
-    let two = q ∙ ap (λ x. x ++ b) p ∙ append_assoc t a b in
-    let three = r ∙ ap (λ x. x ++ c) two ∙ append_assoc t (a ++ b) c in
-    let four = s ∙ ap (λ x. x ++ d) three ∙ append_assoc t ((a ++ b) ++ c) d in
-    let five = u ∙ ap (λ x. x ++ e) four ∙ append_assoc t (((a ++ b) ++ c) ++ d) e in
-    v ∙ ap (λ x. x ++ f) five ∙ append_assoc t ((((a ++ b) ++ c) ++ d) ++ e) f
+-- seven parts, one behind another
+pub seven : (t a b c d e f g : List ℕ) {t1 t2 t3 t4 t5 t6 t7 : List ℕ} → t1 ≡ t ++ a → t2 ≡ t1 ++ b → t3 ≡ t2 ++ c → t4 ≡ t3 ++ d
+    → t5 ≡ t4 ++ e → t6 ≡ t5 ++ f → t7 ≡ t6 ++ g → t7 ≡ t ++ ((((((a ++ b) ++ c) ++ d) ++ e) ++ f) ++ g)
+seven t a b c d e f g p q r s u v w =
+    joined t (((((a ++ b) ++ c) ++ d) ++ e) ++ f) g (joined t ((((a ++ b) ++ c) ++ d) ++ e) f (joined5 t a b c d e p q r s u) v) w

@@ -1,5 +1,5 @@
 -- A body whose uses are known and declared does what its reaction may.
-use Rattle.std.proofs.Common.{◌≡◌, ◌+◌, ℤ, Bool, true, ◌&&◌, ◌||◌, ◌++◌, length, ap, ap₂, sym, ◌∙◌, refl, unsigned_abs, nat_le, length-append}
+use Rattle.std.proofs.Common.{◌≡◌, ◌+◌, ◌*◌, ℤ, Bool, true, ◌&&◌, ◌||◌, ◌++◌, ap, ap₂, sym, ◌∙◌, refl, unsigned_abs, nat_le}
 use Rattle.std.specs.List.{list_all}
 use Rattle.std.proofs.lemmas.Bool.{and_from, and_parts, cond_both}
 use Rattle.warp_tag.specs.Limits.{longest_period}
@@ -8,19 +8,22 @@ use Rattle.warp_body.specs.Term.{VariableAt, ValueAt}
 use Rattle.warp_body.specs.Effect.{schedules_of, schedules_of_one}
 use Rattle.warp_body.specs.declared.place.Target.TheVariants as to
 use Rattle.warp_step.specs.Program.{Program, Rule}
-use Rattle.warp_step.specs.Valid.{names, owns_variable, term_may, statement_may, body_may}
-use Rattle.warp_prog.specs.File.{Word, ReactorPart, ReactionPart, NamedTerm, Literal, Named, PresentNamed, OneNamed, TwoNamed, ChoiceNamed, NamedStatement, SetNamed, PutNamed, ScheduleNamed, ChooseNamed, NamedBody, NamedDone, NamedThen}
-use Rattle.warp_prog.specs.Limits.{statement_delays, body_delays}
+use Rattle.warp_step.specs.Valid.{names, owns_cells, owns_variable, term_may, statement_may, body_may}
+use Rattle.warp_prog.specs.File.{Word, ReactorPart, ReactionPart}
+use Rattle.warp_prog.specs.File.{NamedTerm, Literal, Named, PresentNamed, OneNamed, TwoNamed, ChoiceNamed, ProductNamed, CellNamed, TimeNamed, MicrostepNamed}
+use Rattle.warp_prog.specs.File.{NamedStatement, SetNamed, PutNamed, ScheduleNamed, ChooseNamed, SetCellNamed, RepeatNamed, NamedBody, NamedDone, NamedThen}
+use Rattle.warp_prog.specs.Limits.{statement_delays, body_delays, statement_wishes, body_wishes}
 use Rattle.warp_prog.specs.Names.{is_known}
 use Rattle.warp_prog.specs.Undeclared.{is_declared, may_read}
-use Rattle.warp_prog.specs.Uses.{Use, Reads, Asks, Sets, Puts, Schedules, term_uses, statement_uses, body_uses, is_among, variable_names, action_names}
-use Rattle.warp_prog.specs.Numbered.{numbered_term, numbered_statement, numbered_body, readable, variable_number, output_number, action_number}
+use Rattle.warp_prog.specs.Uses.{Use, Reads, Asks, Sets, Puts, Schedules, Indexes, term_uses, statement_uses, body_uses, is_among, variable_names, array_names, action_names}
+use Rattle.warp_prog.specs.Numbered.{numbered_term, numbered_statement, numbered_body, readable, variable_number, first_cell, cell_count, output_number, action_number}
 use Rattle.warp_prog.specs.declared.scope.Before.{Before}
 use Rattle.warp_prog.proofs.Ranges.{all-parts}
 
 -- what a rule allows to the names of a reaction
 pub record Allows (P : Program) (b : Before) (r : ReactorPart) (n : ReactionPart) (rule : Rule) : Type 0 where
   pub own : (name : Word) → is_among (variable_names r) name ≡ true → owns_variable P rule.reactor (variable_number b r name) ≡ true
+  pub cells : (name : Word) → is_among (array_names r) name ≡ true → owns_cells P rule.reactor (first_cell b r name) (cell_count r name) ≡ true
   pub read : (name : Word) → may_read n name ≡ true → names (rule.triggers ++ rule.reads) (readable b r name) ≡ true
   pub put : (name : Word) → is_among r.outputs name ≡ true → is_among n.writes name ≡ true → names rule.writes (to.Port (output_number b r name)) ≡ true
   pub schedule : (name : Word) → is_among (action_names r) name ≡ true → is_among n.writes name ≡ true →
@@ -54,6 +57,16 @@ module _ (P : Program) (b : Before) (r : ReactorPart) (n : ReactionPart) (rule :
       let first = all-parts (is_right r n) (term_uses c) (term_uses e ++ term_uses f) h in
       let rest = all-parts (is_right r n) (term_uses e) (term_uses f) first.1 in
       and_from _ _ (and_from _ _ (term-may c first.0) (term-may e rest.0)) (term-may f rest.1)
+  term-may (ProductNamed c e f) h =
+      let first = all-parts (is_right r n) (term_uses c) (term_uses e ++ term_uses f) h in
+      let rest = all-parts (is_right r n) (term_uses e) (term_uses f) first.1 in
+      and_from _ _ (and_from _ _ (term-may c first.0) (term-may e rest.0)) (term-may f rest.1)
+  term-may (CellNamed name index) h =
+      let parts = and_parts (is_right r n (Indexes name)) (list_all (is_right r n) (term_uses index)) h in
+      let known = (and_parts (is_known r (Indexes name)) true parts.0).0 in
+      and_from _ _ (allows.cells name known) (term-may index parts.1)
+  term-may TimeNamed h = refl
+  term-may MicrostepNamed h = refl
 
   mutual
     pub statement-may : (s : NamedStatement) → list_all (is_right r n) (statement_uses s) ≡ true → list_all (is_period P.form) (statement_delays s) ≡ true →
@@ -75,6 +88,14 @@ module _ (P : Program) (b : Before) (r : ReactorPart) (n : ReactionPart) (rule :
         let lists = all-parts (is_right r n) (body_uses first) (body_uses second) test.1 in
         let delays = all-parts (is_period P.form) (body_delays first) (body_delays second) d in
         and_from _ _ (and_from _ _ (term-may e test.0) (body-may first lists.0 delays.0)) (body-may second lists.1 delays.1)
+    statement-may (SetCellNamed name index e) h d =
+        let parts = and_parts (is_right r n (Indexes name)) (list_all (is_right r n) (term_uses index ++ term_uses e)) h in
+        let known = (and_parts (is_known r (Indexes name)) true parts.0).0 in
+        let both = all-parts (is_right r n) (term_uses index) (term_uses e) parts.1 in
+        and_from _ _ (and_from _ _ (allows.cells name known) (term-may index both.0)) (term-may e both.1)
+    statement-may (RepeatNamed most e body) h d =
+        let parts = all-parts (is_right r n) (term_uses e) (body_uses body) h in
+        and_from _ _ (term-may e parts.0) (body-may body parts.1 d)
 
     pub body-may : (body : NamedBody) → list_all (is_right r n) (body_uses body) ≡ true → list_all (is_period P.form) (body_delays body) ≡ true →
         body_may P rule (numbered_body b r body) ≡ true
@@ -84,16 +105,16 @@ module _ (P : Program) (b : Before) (r : ReactorPart) (n : ReactionPart) (rule :
         let delays = all-parts (is_period P.form) (statement_delays s) (body_delays ss) d in
         and_from _ _ (statement-may s uses.0 delays.0) (body-may ss uses.1 delays.1)
 
--- it schedules as often as is written
+-- it schedules as often as is written, in a loop as often as it may turn
 mutual
-  pub schedules-statement : (b : Before) (r : ReactorPart) (s : NamedStatement) → schedules_of_one (numbered_statement b r s) ≡ length (statement_delays s)
+  pub schedules-statement : (b : Before) (r : ReactorPart) (s : NamedStatement) → schedules_of_one (numbered_statement b r s) ≡ statement_wishes s
   schedules-statement b r (SetNamed name e) = refl
   schedules-statement b r (PutNamed name e) = refl
   schedules-statement b r (ScheduleNamed name delay e) = refl
-  schedules-statement b r (ChooseNamed e first second) =
-      ap₂ (λ x y. x + y) (schedules-body b r first) (schedules-body b r second) ∙ sym (length-append (body_delays first) (body_delays second))
+  schedules-statement b r (ChooseNamed e first second) = ap₂ (λ x y. x + y) (schedules-body b r first) (schedules-body b r second)
+  schedules-statement b r (SetCellNamed name index e) = refl
+  schedules-statement b r (RepeatNamed most e body) = ap (λ x. unsigned_abs most * x) (schedules-body b r body)
 
-  pub schedules-body : (b : Before) (r : ReactorPart) (body : NamedBody) → schedules_of (numbered_body b r body) ≡ length (body_delays body)
+  pub schedules-body : (b : Before) (r : ReactorPart) (body : NamedBody) → schedules_of (numbered_body b r body) ≡ body_wishes body
   schedules-body b r NamedDone = refl
-  schedules-body b r (NamedThen s ss) =
-      ap₂ (λ x y. x + y) (schedules-statement b r s) (schedules-body b r ss) ∙ sym (length-append (statement_delays s) (body_delays ss))
+  schedules-body b r (NamedThen s ss) = ap₂ (λ x y. x + y) (schedules-statement b r s) (schedules-body b r ss)

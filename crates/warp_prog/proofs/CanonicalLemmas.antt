@@ -2,8 +2,9 @@
 use Rattle.std.proofs.Common.{◌≡◌, ℕ, ◌+◌, ◌<◌, ◌≤◌, List, [], ◌∷◌, ◌++◌, ap, drop, get_or, length, map, sym, ◌∙◌}
 use Rattle.std.proofs.lemmas.List.{append_assoc, append-nil, at_drop_more, drop_all}
 use Rattle.std.proofs.lemmas.Simd.{map-map}
-use Rattle.warp_prog.specs.Canonical.{comma, listed, quoted, reaction_text, reactor_text}
-use Rattle.warp_prog.specs.View.{reaction_tree, reactor_tree}
+use Rattle.warp_prog.specs.Canonical.{array_text, comma, listed, part_unless_empty, quoted, reaction_text, reactor_text}
+use Rattle.warp_prog.specs.View.{array_tree, reaction_tree, reactor_tree}
+use Rattle.warp_prog.specs.declared.file.Array.{Array}
 use Rattle.warp_prog.specs.declared.file.Reaction.{Reaction}
 use Rattle.warp_prog.specs.declared.file.Reactor.{Reactor}
 
@@ -14,6 +15,10 @@ reactor_texts rs = sym (map-map reactor_text reactor_tree rs)
 -- the texts of reactions are those of their trees
 pub reaction_texts : (rs : List Reaction) → map (λ r. reaction_text (reaction_tree r)) rs ≡ map reaction_text (map reaction_tree rs)
 reaction_texts rs = sym (map-map reaction_text reaction_tree rs)
+
+-- the texts of arrays are those of their trees
+pub array_texts : (xs : List Array) → map (λ a. array_text (array_tree a)) xs ≡ map array_text (map array_tree xs)
+array_texts xs = sym (map-map array_text array_tree xs)
 
 -- the texts of labels are those of their bytes
 pub label_texts : {S : Type 0} (bytes : S → List ℕ) (ls : List S) → map (λ s. quoted (bytes s)) ls ≡ map quoted (map bytes ls)
@@ -56,3 +61,7 @@ joined5 t a b c d e p q r u v = joined t (((a ++ b) ++ c) ++ d) e (joined4 t a b
 -- a list of other texts, which are the same
 pub relisted : (t key : List ℕ) {new : List ℕ} {ts us : List (List ℕ)} → ts ≡ us → new ≡ t ++ (key ++ listed ts) → new ≡ t ++ (key ++ listed us)
 relisted t key e p = p ∙ ap (λ ts. t ++ (key ++ listed ts)) e
+
+-- the same of a key that is there where there are texts
+pub reparted : (t key : List ℕ) {new : List ℕ} {ts us : List (List ℕ)} → ts ≡ us → new ≡ t ++ part_unless_empty key ts → new ≡ t ++ part_unless_empty key us
+reparted t key e p = p ∙ ap (λ ts. t ++ part_unless_empty key ts) e

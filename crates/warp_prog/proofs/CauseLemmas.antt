@@ -1,13 +1,16 @@
 -- Why a file that was read is refused, and what its version says.
-use Rattle.std.proofs.Common.{◌≡◌, ◌⊎◌, ℕ, ℤ, pos, negsuc, ◌+◌, ◌<◌, ◌^◌, sym, Bool, true, false, ◌&&◌, ◌||◌, ◌==◌, List, length, Some, inl, inr, refl, ap, ap₂, subst, ◌∙◌, nat_lt, ne_eqb, arith}
+use Rattle.std.proofs.Common.{◌≡◌, ◌⊎◌, ℕ, ℤ, pos, negsuc, ◌<◌, ◌^◌, sym, Bool, true, false, ◌&&◌, ◌||◌, ◌==◌, List, length, Some, inl, inr, refl, ap, ap₂, subst, ◌∙◌, nat_lt, ne_eqb, arith}
 use Rattle.std.specs.Ordering.{int_eq}
 use Rattle.std.proofs.lemmas.Bool.{or_parts, or_from, and_left, and_right, true≢false, ltb-false, cond-true, cond-false, cases_order}
 use Rattle.std.proofs.lemmas.Bool.Decides.{Decides-int_eq}
 use Rattle.std.proofs.lemmas.List.{length-map}
-use Rattle.warp_tag.specs.Limits.{longest_stop, most_origins, most_variables, most_ports, most_actions, most_timers, most_reactions}
+use Rattle.warp_tag.specs.Limits.{longest_stop, most_origins}
+use Rattle.warp_tag.proofs.Forms.{reactions_widen}
 use Rattle.warp_prog.specs.File.{File}
-use Rattle.warp_prog.specs.Limits.{first_version, second_version, last_version, file_form, is_outside, total, exceeds_limits}
-use Rattle.warp_prog.specs.Numbered.{is_first_version, numbered, unordered, its_reactions, nothing_before}
+use Rattle.warp_prog.specs.Exceeds.{exceeds_limits}
+use Rattle.warp_prog.specs.Limits.{file_form, is_outside}
+use Rattle.warp_prog.specs.Version.{first_version, second_version, third_version, last_version}
+use Rattle.warp_prog.specs.Numbered.{is_first_version, numbered, unordered, its_reactions, file_front}
 use Rattle.warp_prog.specs.Load.{IsFirst, lacks_order}
 use Rattle.warp_prog.specs.Undeclared.{is_undeclared}
 use Rattle.warp_prog.specs.inner.Cause.{IsNamed}
@@ -17,39 +20,39 @@ use Rattle.warp_prog.specs.Backward.{leads_back}
 use Rattle.warp_prog.specs.Order.{loader_order, has_no_order}
 use Rattle.warp_prog.proofs.OrderLemmas.{short-order}
 use Rattle.warp_prog.proofs.Eachs.{length-each}
-use Rattle.warp_prog.proofs.RoomLemmas.{limits_kept}
+use Rattle.warp_prog.proofs.RoomLemmas.{limits_kept, totals_kept}
 
 -- there are few reactions
 pub few_reactions : (f : File) → exceeds_limits f ≡ false → length (unordered f).reactions < 2 ^ 32
 few_reactions f h =
-    let variables = nat_lt most_variables (total (λ r. length r.variables) f.reactors) in
-    let ports = nat_lt most_ports (total (λ r. length r.inputs + length r.outputs) f.reactors) in
-    let actions = nat_lt most_actions (total (λ r. length r.actions) f.reactors) in
-    let timers = nat_lt most_timers (total (λ r. length r.timers) f.reactors) in
-    let reactions = total (λ r. length r.reactions) f.reactors in
-    let all = or_parts (variables || ports || actions || timers) (nat_lt most_reactions reactions) (limits_kept f h).2 in
-    let le = ltb-false most_reactions reactions all.1 in
-    let size = length-each its_reactions (λ r. length r.reactions) (λ b r. length-map r.reactions _) f.reactors nothing_before in
-    omega arith
+    let form = file_form f in
+    let few = (totals_kept form f.reactors (limits_kept f h).totals).reactions in
+    let wide = reactions_widen form in
+    let size = length-each its_reactions (λ r. length r.reactions) (λ b r. length-map r.reactions _) f.reactors (file_front f) in
+    omega (arith, few, wide, size)
 
--- a file within the limits is of the first version, of the second or of the last
+-- a file within the limits is of the first version, of the second, of the third or of the last
 first-number : (n : ℤ) → int_eq n (pos first_version) ≡ true → n ≡ pos first_version
 first-number n h = (Decides-int_eq n (pos first_version)).0 h
 
 later-number : (n : ℤ) → is_outside (pos first_version) (pos last_version) n ≡ false → int_eq n (pos first_version) ≡ false
-    → (n ≡ pos second_version) ⊎ (n ≡ pos last_version)
+    → (n ≡ pos second_version) ⊎ ((n ≡ pos third_version) ⊎ (n ≡ pos last_version))
 later-number (pos n) h e =
-    let parts = or_parts (nat_lt n 1) (nat_lt 3 n) h in
+    let parts = or_parts (nat_lt n 1) (nat_lt 4 n) h in
     let low = ltb-false n 1 parts.0 in
-    let high = ltb-false 3 n parts.1 in
+    let high = ltb-false 4 n parts.1 in
     elim (cases_order n 2) [
       | inl same ↦ inl (ap pos same)
       | inr (inl less) ↦
           (let one : n ≡ 1 = omega (arith, low, less) in
           absurd (true≢false (sym ((Decides-int_eq (pos n) (pos 1)).1 (ap pos one)) ∙ e)))
-      | inr (inr more) ↦
-          (let three : n ≡ 3 = omega (arith, high, more) in
-          inr (ap pos three))
+      | inr (inr more) ↦ inr (elim (cases_order n 3) [
+        | inl same ↦ inl (ap pos same)
+        | inr (inl less) ↦ absurd (omega (arith, more, less))
+        | inr (inr past) ↦
+            (let four : n ≡ 4 = omega (arith, high, past) in
+            inr (ap pos four))
+      ])
     ]
 later-number (negsuc n) h e = absurd (true≢false h)
 
@@ -57,10 +60,10 @@ pub first_version-is : (f : File) → is_first_version f ≡ true → f.version 
 first_version-is f h = first-number f.version h
 
 pub later_version-is : (f : File) → exceeds_limits f ≡ false → is_first_version f ≡ false →
-    (f.version ≡ pos second_version) ⊎ (f.version ≡ pos last_version)
+    (f.version ≡ pos second_version) ⊎ ((f.version ≡ pos third_version) ⊎ (f.version ≡ pos last_version))
 later_version-is f h e =
     let numbers = or_parts (is_outside (pos first_version) (pos last_version) f.version || is_outside (pos 0) (pos (longest_stop (file_form f))) f.stop)
-    (is_outside (pos 1) (pos (most_origins (file_form f))) f.origins) (limits_kept f h).0 in
+    (is_outside (pos 1) (pos (most_origins (file_form f))) f.origins) (limits_kept f h).numbers in
     later-number f.version (or_parts (is_outside (pos first_version) (pos last_version) f.version) (is_outside (pos 0) (pos (longest_stop (file_form f))) f.stop) numbers.0).0 e
 
 -- its fault of order is its first, and a use that is not declared where its reactions have an order

@@ -1,7 +1,7 @@
 -- How deep an expression is at least.
 use Rattle.std.proofs.Common.{◌≡◌, ℕ, ◌<◌, ◌≤◌, true, ◌||◌, max, ltb, arith}
 use Rattle.std.proofs.lemmas.Bool.Decides.{nat_tests}
-use Rattle.warp_prog.specs.File.{NamedTerm, Literal, Named, PresentNamed, OneNamed, TwoNamed, ChoiceNamed}
+use Rattle.warp_prog.specs.File.{NamedTerm, Literal, Named, PresentNamed, OneNamed, TwoNamed, ChoiceNamed, ProductNamed, CellNamed, TimeNamed, MicrostepNamed}
 use Rattle.warp_prog.specs.Limits.{term_depth}
 
 -- an expression has a level
@@ -12,6 +12,10 @@ has_level (PresentNamed name) = omega arith
 has_level (OneNamed op a) = omega arith
 has_level (TwoNamed op a b) = omega arith
 has_level (ChoiceNamed c a b) = omega arith
+has_level (ProductNamed a b c) = omega arith
+has_level (CellNamed name index) = omega arith
+has_level TimeNamed = omega arith
+has_level MicrostepNamed = omega arith
 
 above_none : (levels n : ℕ) → 0 < n → ¬ (1 ≤ levels) → true ≡ ltb levels n
 above_none levels n some none = grind (arith, nat_tests)

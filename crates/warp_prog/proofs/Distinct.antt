@@ -7,7 +7,7 @@ use Rattle.std.proofs.lemmas.List.Folds.{list_any-append}
 use Rattle.warp_step.specs.Valid.{is_distinct}
 use Rattle.warp_prog.specs.File.{Word, ReactorPart}
 use Rattle.warp_prog.specs.Twice.{how_often, stands_twice, repeats, all_names}
-use Rattle.warp_prog.specs.Uses.{startup, is_among, variable_names, action_names, timer_names}
+use Rattle.warp_prog.specs.Uses.{startup, is_among, variable_names, array_names, action_names, timer_names}
 use Rattle.warp_prog.proofs.OnceLemmas.{same_name, own_name}
 
 -- a test that finds less finds none either
@@ -84,9 +84,11 @@ pub no-output : (r : ReactorPart) (name : Word) → repeats bytes_eq (all_names 
     is_among r.outputs name ≡ false
 unfolding all_names
 no-output r name h a =
-    let h0 = (apart-first bytes_eq startup (variable_names r ++ (r.inputs ++ (r.outputs ++ (action_names r ++ timer_names r)))) (own_name startup) h).1 in
-    let h1 = apart-rest bytes_eq own_name (variable_names r) (r.inputs ++ (r.outputs ++ (action_names r ++ timer_names r))) h0 in
-    let h2 = apart-rest bytes_eq own_name r.inputs (r.outputs ++ (action_names r ++ timer_names r)) h1 in
+    let written = r.outputs ++ (action_names r ++ timer_names r) in
+    let h0 = (apart-first bytes_eq startup (variable_names r ++ (array_names r ++ (r.inputs ++ written))) (own_name startup) h).1 in
+    let h1 = apart-rest bytes_eq own_name (variable_names r) (array_names r ++ (r.inputs ++ written)) h0 in
+    let h2 = apart-rest bytes_eq own_name (array_names r) (r.inputs ++ written) h1 in
+    let h3 = apart-rest bytes_eq own_name r.inputs written h2 in
     false_from_ne_true (is_among r.outputs name) (λ o.
     true≢false (sym a ∙ (or_parts (is_among (action_names r) name) (is_among (timer_names r) name)
-    (sym (list_any-append (bytes_eq name) (action_names r) (timer_names r)) ∙ apart-names name r.outputs (action_names r ++ timer_names r) h2 o)).0))
+    (sym (list_any-append (bytes_eq name) (action_names r) (timer_names r)) ∙ apart-names name r.outputs (action_names r ++ timer_names r) h3 o)).0))

@@ -1,13 +1,16 @@
 -- What stands in each reactor, one after another: how much it is, what holds of all of it, and in which order it stands.
-use Rattle.std.proofs.Common.{◌≡◌, ℕ, ◌+◌, ◌≤◌, Bool, true, List, [], ◌∷◌, ◌++◌, length, map, ap₂, ◌∙◌, refl, nat_le, length-append, le-leb, leb-true, arith}
-use Rattle.std.specs.List.{list_all}
-use Rattle.std.proofs.lemmas.Bool.{and_from, and_parts}
+use Rattle.std.proofs.Common.{◌≡◌, ℕ, ◌+◌, ◌≤◌, Bool, true, List, [], ◌∷◌, ◌++◌, length, map, drop, ap, ap₂, sym, ◌∙◌, refl, zero-add, nat_le, length-append, le-leb, leb-true, arith}
+use Rattle.std.specs.List.{list_all, list_any}
+use Rattle.std.proofs.lemmas.Bool.{and_from, and_parts, not-true}
+use Rattle.std.proofs.lemmas.List.{length-map}
 use Rattle.warp_step.specs.Program.{Program, Rule}
 use Rattle.warp_step.specs.Valid.{is_rising}
-use Rattle.warp_prog.specs.File.{ReactorPart, ReactionPart}
-use Rattle.warp_prog.specs.Limits.{total}
-use Rattle.warp_prog.specs.Numbered.{past, in_each, its_reactions, numbered_reaction}
+use Rattle.warp_prog.specs.File.{File, ReactorPart, ReactionPart}
+use Rattle.warp_prog.specs.Limits.{array_exceeds, cells_of, total}
+use Rattle.warp_prog.specs.Numbered.{file_front, past, in_each, its_variables, its_cells, its_reactions, numbered, numbered_reaction}
 use Rattle.warp_prog.specs.declared.scope.Before.{Before}
+use Rattle.warp_prog.proofs.ArrayLemmas.{arrays_fit, length-cells}
+use Rattle.warp_prog.proofs.Has.{drop-front}
 use Rattle.warp_prog.proofs.Stands.{Stands, stand_past}
 use Rattle.warp_prog.proofs.Ranges.{all-joined}
 
@@ -17,6 +20,31 @@ pub length-each : {A : Type 0} (its : Before → ReactorPart → List A) (count 
 length-each its count e [] b = refl
 length-each its count e (r ∷ rs) b =
     length-append (its b r) (in_each its (past b r) rs) ∙ ap₂ (λ x y. x + y) (e b r) (length-each its count e rs (past b r))
+
+-- and how many cells there are
+pub cells-each : (rs : List ReactorPart) (b : Before) → list_all arrays_fit rs ≡ true → length (in_each its_cells b rs) ≡ total (λ r. cells_of r.arrays) rs
+cells-each [] b h = refl
+cells-each (r ∷ rs) b h =
+    let parts = and_parts (arrays_fit r) (list_all arrays_fit rs) h in
+    length-append (its_cells b r) (in_each its_cells (past b r) rs)
+    ∙ ap₂ (λ x y. x + y) (length-cells b r.arrays (not-true (list_any array_exceeds r.arrays) parts.0)) (cells-each rs (past b r) parts.1)
+
+-- at the beginning these are all reactors
+pub stand_all : (f : File) → list_all arrays_fit f.reactors ≡ true → Stands (numbered f) (file_front f) f.reactors
+stand_all f right =
+    let variables = in_each its_variables (file_front f) f.reactors in
+    let cells = in_each its_cells (file_front f) f.reactors in
+    let size = length-each its_variables (λ r. length r.variables) (λ b r. length-map r.variables _) f.reactors (file_front f) in
+    record {
+      reactors = zero-add (length f.reactors);
+      rest = cells;
+      variables = refl;
+      cells = ap (λ n. drop n (variables ++ cells)) (sym size) ∙ drop-front variables cells;
+      right = right;
+      ports = refl;
+      actions = refl;
+      timers = refl;
+    }
 
 -- what holds of what stands in each reactor that is right holds of all
 pub all-each : {A : Type 0} (P : Program) (its : Before → ReactorPart → List A) (q : A → Bool) (right : ReactorPart → Bool) →

@@ -105,3 +105,20 @@ module _ {Y : Type 0} (f g : Word → Y) (q : Y → Bool) (ins outs : List Word)
       (has-after (map f ins) (map g outs ++ rest) (place_among outs name) q
       ∙ subst (λ ns. has (map g outs ++ rest) (place_among ns name) q ≡ true) (map-id outs)
       (has-found (λ (n : Word). n) g q name good outs rest (subst (λ ns. is_among ns name ≡ true) (sym (map-id outs)) h))))
+
+drop-nothing : {X : Type 0} (n : ℕ) → drop {A = X} n [] ≡ []
+drop-nothing zero = refl
+drop-nothing (suc n) = refl
+
+drop-more : {X : Type 0} (k n : ℕ) (xs : List X) → drop (k + n) xs ≡ drop n (drop k xs)
+drop-more zero n xs = ap (λ m. drop m xs) (zero-add n)
+drop-more (suc k) n [] = drop-nothing (suc k + n) ∙ sym (drop-nothing n)
+drop-more (suc k) n (x ∷ xs) = ap (λ m. drop m (x ∷ xs)) (suc-add k n) ∙ drop-more k n xs
+
+pub drop-front : {X : Type 0} (xs ys : List X) → drop (length xs) (xs ++ ys) ≡ ys
+drop-front [] ys = refl
+drop-front (x ∷ xs) ys = drop-front xs ys
+
+-- what is left after the front of what was left
+pub drop-past : {X : Type 0} (all xs ys : List X) (k n : ℕ) → drop k all ≡ xs ++ ys → length xs ≡ n → drop (k + n) all ≡ ys
+drop-past all xs ys k n h e = drop-more k n all ∙ ap (drop n) h ∙ ap (λ m. drop m (xs ++ ys)) (sym e) ∙ drop-front xs ys

@@ -6,7 +6,7 @@ use Rattle.serde_json.specs.declared.value.Value.{Value}
 use Rattle.serde_json.specs.Data.{Data, array}
 use Rattle.warp_prog.specs.Chain.{◌>>=◌}
 use Rattle.warp_prog.specs.Terms.{term_of}
-use Rattle.warp_prog.specs.Json.{each, is_one_of, two_items, three_items}
+use Rattle.warp_prog.specs.Json.{each, is_one_of, two_items, three_items, four_items}
 
 -- what was read so far, and then the rest
 abbrev pub after : {A : Type 0} → List A → Option (List A) → Option (List A)
@@ -25,14 +25,21 @@ not_three (a ∷ (b ∷ [])) h = refl
 not_three (a ∷ (b ∷ (c ∷ []))) h = absurd (h refl)
 not_three (a ∷ (b ∷ (c ∷ (d ∷ vs)))) h = refl
 
-pub too_few : (vs : List Value) → length vs < 2 → term_of (array (items_view vs)) ≡ None
+pub not_four : (vs : List Value) → ¬ (length vs ≡ 4) → None ≡ four_items (items_view vs)
+not_four [] h = refl
+not_four (a ∷ []) h = refl
+not_four (a ∷ (b ∷ [])) h = refl
+not_four (a ∷ (b ∷ (c ∷ []))) h = refl
+not_four (a ∷ (b ∷ (c ∷ (d ∷ [])))) h = absurd (h refl)
+not_four (a ∷ (b ∷ (c ∷ (d ∷ (e ∷ vs))))) h = refl
+
+pub too_few : (vs : List Value) → length vs < 1 → term_of (array (items_view vs)) ≡ None
 too_few [] h = refl
-too_few (a ∷ []) h = refl
-too_few (a ∷ (b ∷ vs)) h = absurd (omega (arith, h))
+too_few (a ∷ vs) h = absurd (omega (arith, h))
 
 pub too_many : (vs : List Value) → 5 ≤ length vs → term_of (array (items_view vs)) ≡ None
 too_many [] h = refl
-too_many (a ∷ []) h = refl
+too_many (a ∷ []) h = absurd (omega (arith, h))
 too_many (a ∷ (b ∷ [])) h = absurd (omega (arith, h))
 too_many (a ∷ (b ∷ (c ∷ []))) h = absurd (omega (arith, h))
 too_many (a ∷ (b ∷ (c ∷ (d ∷ [])))) h = absurd (omega (arith, h))

@@ -1,8 +1,11 @@
 -- Labels: one reactor more, and one text more.
-use Rattle.std.proofs.Common.{◌≡◌, List, [], ◌∷◌, ◌++◌, ℕ, ◌+◌, ◌<◌, ◌≤◌, length, map, drop, take, get_or, ap, sym, ◌∙◌, Result, Ok, Err, OnOk}
-use Rattle.std.proofs.lemmas.List.{append_assoc, append-nil, at_drop_more, drop_all, map-append, map_more}
-use Rattle.warp_prog.specs.Explain.{labelled, labels_in}
+use Rattle.std.proofs.Common.{◌≡◌, List, [], ◌∷◌, ◌++◌, ℕ, ◌+◌, ◌<◌, ◌≤◌, length, length-append, map, drop, take, get_or}
+use Rattle.std.proofs.Common.{ap, ap₂, sym, ◌∙◌, refl, Result, Ok, Err, OnOk}
+use Rattle.std.proofs.lemmas.List.{append_assoc, append-nil, at_drop_more, drop_all, length-map, map-append, map_more}
+use Rattle.warp_prog.specs.Explain.{label_of, labelled, labels_in}
 use Rattle.warp_prog.specs.File.{Word, ReactorPart}
+use Rattle.warp_prog.specs.Numbered.{variables_in}
+use Rattle.warp_prog.specs.Uses.{variable_names}
 use Rattle.warp_prog.specs.View.{reactor_tree}
 use Rattle.warp_prog.specs.declared.file.Reactor.{Reactor}
 
@@ -20,6 +23,18 @@ labels_more its done new rs i r within here e =
 pub labels_all : (its : ReactorPart → List Word) (done : List Word) (rs : List Reactor) (i : ℕ) → length rs ≤ i
     → done ++ labels_in its (map reactor_tree (drop i rs)) ≡ done
 labels_all its done rs i past = ap (λ ss. done ++ labels_in its (map reactor_tree ss)) (drop_all i rs past) ∙ append-nil done
+
+-- there are as many labels of variables as variables
+labels_count : (rs : List ReactorPart) → length (labels_in variable_names rs) ≡ variables_in rs
+labels_count [] = refl
+labels_count (r ∷ rs) =
+    length-append (labelled variable_names r) (labels_in variable_names rs)
+    ∙ ap₂ (λ x y. x + y) (length-map (variable_names r) (label_of r) ∙ length-map r.variables (λ v. v.name)) (labels_count rs)
+
+-- so many are the texts that are these labels
+pub labels_size : {S : Type 0} (bytes : S → Word) (ls : List S) (rs : List ReactorPart)
+    → map bytes ls ≡ labels_in variable_names rs → length ls ≡ variables_in rs
+labels_size bytes ls rs e = sym (length-map ls bytes) ∙ ap length e ∙ labels_count rs
 
 -- one text more, which is that of one thing more
 pub texts_more : {S X : Type 0} (bytes : S → Word) (f : X → Word) (done new : List S) (text : S) (xs : List X) (i : ℕ) (x : X)

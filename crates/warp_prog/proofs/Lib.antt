@@ -4,6 +4,8 @@ pub mod Rooms
 pub mod Depths
 pub mod ItemLemmas
 pub mod Has
+pub mod ArrayLemmas
+pub mod ArrayNames
 pub mod Stands
 pub mod OnceLemmas
 pub mod Numbers
@@ -18,6 +20,7 @@ pub mod Ports
 pub mod Links
 pub mod Fits
 pub mod ReadingLemmas
+pub mod Loops
 pub mod RoomLemmas
 pub mod LoadLemmas
 pub mod MemberLemmas
@@ -31,4 +34,7 @@ pub mod ReadLemmas
 pub mod RuleLemmas
 pub mod LimitLemmas
 pub mod CanonicalLemmas
+pub mod NamesLemmas
 pub mod OwnLemmas
+pub mod WorkLemmas
+pub mod WorkParts

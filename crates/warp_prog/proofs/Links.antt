@@ -14,7 +14,7 @@ use Rattle.warp_prog.specs.Limits.{file_form, delay_exceeds, link_exceeds, origi
 use Rattle.warp_prog.specs.Names.{is_input, is_output}
 use Rattle.warp_prog.specs.Twice.{repeats, same_port, targets}
 use Rattle.warp_prog.specs.Uses.{is_among}
-use Rattle.warp_prog.specs.Numbered.{nothing_before, in_each, numbered, numbered_link, numbered_input, input_number, output_number, port_number, source_number, target_number}
+use Rattle.warp_prog.specs.Numbered.{file_front, nothing_before, in_each, numbered, numbered_link, numbered_input, input_number, output_number, port_number, source_number, target_number}
 use Rattle.warp_prog.specs.declared.file.PortName.{PortName}
 use Rattle.warp_prog.specs.declared.file.LinkPart.{LinkPart}
 use Rattle.warp_prog.specs.declared.file.InputPart.{InputPart}
@@ -22,7 +22,7 @@ use Rattle.warp_prog.proofs.Has.{has-map, has-less}
 use Rattle.warp_prog.proofs.OnceLemmas.{own_name}
 use Rattle.warp_prog.proofs.Ranges.{in-range, is-origin}
 use Rattle.warp_prog.proofs.Distinct.{distinct-numbers}
-use Rattle.warp_prog.proofs.Ports.{NamedPort, its_named, ports-named, the-first, is_named, Finds, finds-each, finds-input, finds-output, one-name, reactor-is}
+use Rattle.warp_prog.proofs.Ports.{NamedPort, its_named, ports-alike, ports-named, the-first, is_named, Finds, finds-each, finds-input, finds-output, one-name, reactor-is}
 
 own_port : (p : PortName) → same_port p p ≡ true
 own_port p = and_from _ _ (own_name p.reactor) (own_name p.port)
@@ -30,52 +30,52 @@ own_port p = and_from _ _ (own_name p.reactor) (own_name p.port)
 module _ (f : File) (d : repeats bytes_eq (map (λ (r : ReactorPart). r.name) f.reactors) ≡ false) where
   found : (number : _) (its : ReactorPart → List Word) (kind : Bool → Bool) → Finds number its kind → (p : PortName) →
       list_any (λ r. bytes_eq p.reactor r.name && is_among (its r) p.port) f.reactors ≡ true →
-      has (in_each its_named nothing_before f.reactors) (port_number number nothing_before f.reactors p) (is_named kind p (place f.reactors p.reactor)) ≡ true
+      has (in_each its_named (nothing_before 0) f.reactors) (port_number number (nothing_before 0) f.reactors p) (is_named kind p (place f.reactors p.reactor)) ≡ true
   found number its kind finds p h =
-      subst (λ k. has (in_each its_named nothing_before f.reactors) (port_number number nothing_before f.reactors p) (is_named kind p k) ≡ true) (zero-add (place f.reactors p.reactor))
-      (finds-each number its kind finds p (in_each its_named nothing_before f.reactors) f.reactors nothing_before refl
+      subst (λ k. has (in_each its_named (nothing_before 0) f.reactors) (port_number number (nothing_before 0) f.reactors p) (is_named kind p k) ≡ true) (zero-add (place f.reactors p.reactor))
+      (finds-each number its kind finds p (in_each its_named (nothing_before 0) f.reactors) f.reactors (nothing_before 0) refl
       (the-first (λ r. is_among (its r) p.port) f.reactors p.reactor d h))
 
   -- a test of the port in the program, from one of the named port
-  in-program : (n : ℕ) (q : Port → Bool) → has (in_each its_named nothing_before f.reactors) n (λ e. q e.port) ≡ true → has (numbered f).ports n q ≡ true
+  in-program : (n : ℕ) (q : Port → Bool) → has (in_each its_named (nothing_before 0) f.reactors) n (λ e. q e.port) ≡ true → has (numbered f).ports n q ≡ true
   in-program n q h =
-      subst (λ ps. has ps n q ≡ true) (ports-named nothing_before f.reactors)
-      (has-map (λ (e : NamedPort). e.port) (in_each its_named nothing_before f.reactors) n q ∙ h)
+      subst (λ ps. has ps n q ≡ true) (ports-named (nothing_before 0) f.reactors ∙ ports-alike f.reactors (nothing_before 0) (file_front f) refl)
+      (has-map (λ (e : NamedPort). e.port) (in_each its_named (nothing_before 0) f.reactors) n q ∙ h)
 
   module _ (number : _) (its : ReactorPart → List Word) (kind : Bool → Bool) (finds : Finds number its kind) (p : PortName)
       (h : list_any (λ r. bytes_eq p.reactor r.name && is_among (its r) p.port) f.reactors ≡ true) where
     -- it is of its kind, and of the reactor in its place
-    pub of-kind : has (numbered f).ports (port_number number nothing_before f.reactors p) (λ e. kind e.is_input) ≡ true
+    pub of-kind : has (numbered f).ports (port_number number (nothing_before 0) f.reactors p) (λ e. kind e.is_input) ≡ true
     of-kind =
-        in-program (port_number number nothing_before f.reactors p) (λ e. kind e.is_input)
+        in-program (port_number number (nothing_before 0) f.reactors p) (λ e. kind e.is_input)
         (has-less (is_named kind p (place f.reactors p.reactor)) (λ e. kind e.port.is_input)
         (λ e a. (and_parts (kind e.port.is_input) (e.port.reactor == place f.reactors p.reactor)
         (and_parts (same_port p e.at) (kind e.port.is_input && e.port.reactor == place f.reactors p.reactor) a).1).0)
-        (in_each its_named nothing_before f.reactors) (port_number number nothing_before f.reactors p) (found number its kind finds p h))
+        (in_each its_named (nothing_before 0) f.reactors) (port_number number (nothing_before 0) f.reactors p) (found number its kind finds p h))
 
-    pub of-reactor : reactor_of (numbered f) (port_number number nothing_before f.reactors p) ≡ place f.reactors p.reactor
+    pub of-reactor : reactor_of (numbered f) (port_number number (nothing_before 0) f.reactors p) ≡ place f.reactors p.reactor
     of-reactor =
-        reactor-is (numbered f) (port_number number nothing_before f.reactors p) (place f.reactors p.reactor)
-        (in-program (port_number number nothing_before f.reactors p) (λ e. e.reactor == place f.reactors p.reactor)
+        reactor-is (numbered f) (port_number number (nothing_before 0) f.reactors p) (place f.reactors p.reactor)
+        (in-program (port_number number (nothing_before 0) f.reactors p) (λ e. e.reactor == place f.reactors p.reactor)
         (has-less (is_named kind p (place f.reactors p.reactor)) (λ e. e.port.reactor == place f.reactors p.reactor)
         (λ e a. (and_parts (kind e.port.is_input) (e.port.reactor == place f.reactors p.reactor)
         (and_parts (same_port p e.at) (kind e.port.is_input && e.port.reactor == place f.reactors p.reactor) a).1).1)
-        (in_each its_named nothing_before f.reactors) (port_number number nothing_before f.reactors p) (found number its kind finds p h)))
+        (in_each its_named (nothing_before 0) f.reactors) (port_number number (nothing_before 0) f.reactors p) (found number its kind finds p h)))
 
-    pub by-name : has (in_each its_named nothing_before f.reactors) (port_number number nothing_before f.reactors p) (λ e. same_port p e.at) ≡ true
+    pub by-name : has (in_each its_named (nothing_before 0) f.reactors) (port_number number (nothing_before 0) f.reactors p) (λ e. same_port p e.at) ≡ true
     by-name =
         has-less (is_named kind p (place f.reactors p.reactor)) (λ e. same_port p e.at)
         (λ e a. (and_parts (same_port p e.at) (kind e.port.is_input && e.port.reactor == place f.reactors p.reactor) a).0)
-        (in_each its_named nothing_before f.reactors) (port_number number nothing_before f.reactors p) (found number its kind finds p h)
+        (in_each its_named (nothing_before 0) f.reactors) (port_number number (nothing_before 0) f.reactors p) (found number its kind finds p h)
 
   -- two references with one number are to the same port
   pub one-number : (number : _) (its : ReactorPart → List Word) (kind : Bool → Bool) → Finds number its kind → (p q : PortName) →
       list_any (λ r. bytes_eq p.reactor r.name && is_among (its r) p.port) f.reactors ≡ true →
       list_any (λ r. bytes_eq q.reactor r.name && is_among (its r) q.port) f.reactors ≡ true →
-      port_number number nothing_before f.reactors q ≡ port_number number nothing_before f.reactors p → same_port p q ≡ true
+      port_number number (nothing_before 0) f.reactors q ≡ port_number number (nothing_before 0) f.reactors p → same_port p q ≡ true
   one-number number its kind finds p q h k e =
-      one-name p q (in_each its_named nothing_before f.reactors) (port_number number nothing_before f.reactors p) (by-name number its kind finds p h)
-      (subst (λ n. has (in_each its_named nothing_before f.reactors) n (λ e. same_port q e.at) ≡ true) e (by-name number its kind finds q k))
+      one-name p q (in_each its_named (nothing_before 0) f.reactors) (port_number number (nothing_before 0) f.reactors p) (by-name number its kind finds p h)
+      (subst (λ n. has (in_each its_named (nothing_before 0) f.reactors) n (λ e. same_port q e.at) ≡ true) e (by-name number its kind finds q k))
 
   -- a link
   leads : (l : LinkPart) (delay : Option ℤ) → delay_exceeds (file_form f) delay ≡ false →

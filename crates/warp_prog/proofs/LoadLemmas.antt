@@ -6,7 +6,7 @@ use Rattle.warp_step.specs.Program.{Program}
 use Rattle.warp_prog.specs.File.{File}
 use Rattle.warp_prog.specs.Shape.{file_of}
 use Rattle.warp_prog.specs.Reading.{longest_file, json_of, shaped, spelled, reading_of}
-use Rattle.warp_prog.specs.Limits.{first_version, second_version, last_version}
+use Rattle.warp_prog.specs.Version.{first_version, second_version, third_version, last_version}
 use Rattle.warp_prog.specs.Load.{IsFirst, IsFaultless, IsFaulty, IsFaultyFile, IsLoaded, IsRefused}
 use Rattle.warp_prog.specs.inner.Cause.{IsCause}
 use Rattle.warp_prog.specs.Numbered.{numbered}
@@ -105,7 +105,8 @@ first-fault bytes f e h first = by e first
     by Causality cause =
         elim cause.1 [
           | inl second ↦ inl (faulty-file second_version 6 (cause.0, second))
-          | inr last ↦ inr (faulty-file last_version 6 (cause.0, last))
+          | inr (inl third) ↦ inr (inl (faulty-file third_version 6 (cause.0, third)))
+          | inr (inr last) ↦ inr (inr (faulty-file last_version 6 (cause.0, last)))
         ]
     by Undeclared first = faulty 7 first
     by Memory cause = read.0

@@ -1,15 +1,18 @@
 -- Numbers in the place of names: bodies, and one reactor, one reaction and one name more.
-use Rattle.std.proofs.Common.{◌≡◌, List, [], ◌∷◌, ◌++◌, ℕ, ◌+◌, ◌<◌, ◌≤◌, length, map, drop, take, get_or, false, bytes_eq, ap, sym, subst, ◌∙◌, refl, arith}
+use Rattle.std.proofs.Common.{◌≡◌, List, [], ◌∷◌, ◌++◌, ℕ, ◌+◌, ◌<◌, ◌≤◌, length, map, drop, take, get_or, false, bytes_eq, ap, sym, subst, ◌∙◌, refl, arith, unsigned_abs}
 use Rattle.std.specs.Bool.{if◌then◌else◌}
-use Rattle.std.proofs.lemmas.Bool.{cond-false}
+use Rattle.std.specs.List.{list_any}
+use Rattle.std.proofs.lemmas.Bool.{cond-false, or_parts}
 use Rattle.std.proofs.lemmas.List.{append_assoc, append-nil, at_drop_more, drop_all, map-append, map_more}
 use Rattle.warp_body.specs.declared.place.Target.{Target}
 use Rattle.warp_body.specs.Effect.{Then, body_of}
 use Rattle.warp_step.specs.Valid.{names}
+use Rattle.warp_step.specs.declared.parts.Variable.{Variable}
 use Rattle.warp_prog.specs.File.{Word, ReactorPart}
-use Rattle.warp_prog.specs.Numbered.{numbered_statement, numbered_body, in_each, once_after, past, place_among, port_number}
-use Rattle.warp_prog.specs.View.{statement_tree, body_tree, reactor_tree}
-use Rattle.warp_prog.specs.inner.Room.{HasRoom, HaveRoom}
+use Rattle.warp_prog.specs.Numbered.{cell_with, cells_in, starts_with, numbered_statement, numbered_body, in_each, once_after, past, place_among, port_number}
+use Rattle.warp_prog.specs.View.{array_tree, start_tree, statement_tree, body_tree, reactor_tree}
+use Rattle.warp_prog.specs.inner.Room.{HasRoom, HaveRoom, its_loops_exceed}
+use Rattle.warp_prog.specs.declared.file.Array.{Array}
 use Rattle.warp_prog.specs.declared.file.PortName.{PortName}
 use Rattle.warp_prog.specs.declared.file.Reactor.{Reactor}
 use Rattle.warp_prog.specs.declared.file.Statement.{Statement}
@@ -37,16 +40,20 @@ room_first b r rs h = (
   record {
     reactors = (let e = h.reactors in omega arith);
     variables = (let e = h.variables in omega arith);
+    cells = (let e = h.cells in omega arith);
     ports = (let e = h.ports in omega arith);
     actions = (let e = h.actions in omega arith);
     timers = (let e = h.timers in omega arith);
+    loops = (or_parts (its_loops_exceed r) (list_any its_loops_exceed rs) h.loops).0;
   },
   record {
     reactors = (let e = h.reactors in omega arith);
     variables = (let e = h.variables in omega arith);
+    cells = (let e = h.cells in omega arith);
     ports = (let e = h.ports in omega arith);
     actions = (let e = h.actions in omega arith);
     timers = (let e = h.timers in omega arith);
+    loops = (or_parts (its_loops_exceed r) (list_any its_loops_exceed rs) h.loops).1;
   },
 )
 
@@ -117,3 +124,16 @@ pub pushed_more : {X A : Type 0} (f : X → A) (old now new : List A) (xs : List
 pushed_more f old now new xs i x within here is so_far =
     is ∙ ap (λ ys. ys ++ f x ∷ []) so_far ∙ append_assoc old (map f (take i xs)) (f x ∷ [])
     ∙ ap (λ ys. old ++ ys) (ap (λ y. map f (take i xs) ++ f y ∷ []) here ∙ sym (map_more f xs i x within))
+
+-- one array more: its cells are added
+abbrev cells_seen : Before → Array → List Variable
+cells_seen b a = map (cell_with b) (starts_with (unsigned_abs a.count) (start_tree a.start))
+
+pub cells_more : (b : Before) (done new : List Variable) (xs : List Array) (i : ℕ) (a : Array) → i < length xs → a ≡ get_or xs i a
+    → new ≡ done ++ map (cell_with b) (starts_with (unsigned_abs a.count) (start_tree a.start))
+    → new ++ cells_in b (map array_tree (drop (i + 1) xs)) ≡ done ++ cells_in b (map array_tree (drop i xs))
+cells_more b done new xs i a within here e =
+    let rest = cells_in b (map array_tree (drop (i + 1) xs)) in
+    ap (λ ys. ys ++ rest) e ∙ append_assoc done (cells_seen b a) rest
+    ∙ ap (λ x. done ++ (cells_seen b x ++ rest)) here
+    ∙ sym (at_drop_more (λ ys. done ++ cells_in b (map array_tree ys)) xs i a within)

@@ -1,5 +1,5 @@
 -- A program puts few enough outputs by itself to be counted in 64 bits.
-use Rattle.std.proofs.Common.{ℕ, zero, suc, ◌+◌, ◌*◌, ◌<◌, ◌≤◌, ◌^◌, Bool, true, false, arith, length, if◌then◌else◌}
+use Rattle.std.proofs.Common.{ℕ, zero, suc, ◌+◌, ◌<◌, ◌≤◌, ◌^◌, Bool, true, false, arith, length, if◌then◌else◌}
 use Rattle.std.specs.Prelude.{IsTrue}
 use Rattle.std.proofs.lemmas.Nat.{mul-le}
 use Rattle.warp_tag.specs.Limits.{longest_stop, most_outputs, widest}
@@ -26,5 +26,5 @@ few_outputs P h =
     let rows = before_at_most P (P.stop + 1) in
     let stop = limits.stop in
     let rows_few : own_rows P ≤ longest_stop widest + 1 = omega (arith, rows, stop) in
-    let product = mul-le (own_rows P) (length P.outputs) (longest_stop widest + 1) most_outputs rows_few limits.outputs in
+    let product = mul-le (own_rows P) (length P.outputs) (longest_stop widest + 1) (most_outputs widest) rows_few limits.outputs in
     omega (arith, product)

@@ -16,8 +16,8 @@ use Rattle.warp_prog.specs.Uses.{is_among}
 use Rattle.warp_prog.specs.Numbered.{past, in_each, its_ports, place_among, input_number, output_number, port_number}
 use Rattle.warp_prog.specs.declared.file.PortName.{PortName}
 use Rattle.warp_prog.specs.declared.scope.Before.{Before}
-use Rattle.warp_prog.proofs.Has.{has-first, has-second, has-less, has-both, has-fact}
-use Rattle.warp_prog.proofs.Stands.{has-left, drop-past}
+use Rattle.warp_prog.proofs.Has.{drop-past, has-first, has-second, has-less, has-both, has-fact}
+use Rattle.warp_prog.proofs.Stands.{has-left}
 use Rattle.warp_prog.proofs.OnceLemmas.{same_name, own_name}
 use Rattle.warp_prog.proofs.Distinct.{apart-first}
 
@@ -43,6 +43,14 @@ map-each f b (r ∷ rs) e = map-append f (its_named b r) (in_each its_named (pas
 -- the ports are those that references name
 pub ports-named : (b : Before) (rs : List ReactorPart) → map (λ e. e.port) (in_each its_named b rs) ≡ in_each its_ports b rs
 ports-named b rs = map-each (λ e. e.port) b rs (λ b r. simp (map-append, map-map))
+
+-- ports do not depend on where cells are numbered
+pub ports-alike : (rs : List ReactorPart) (b c : Before) → b.reactors ≡ c.reactors → in_each its_ports b rs ≡ in_each its_ports c rs
+ports-alike [] b c same = refl
+ports-alike (r ∷ rs) b c same =
+    ap₂ (λ xs ys. xs ++ ys)
+    (ap (λ k. map (λ (n : Word). record { reactor = k; is_input = true }) r.inputs ++ map (λ (n : Word). record { reactor = k; is_input = false }) r.outputs) same)
+    (ports-alike rs (past b r) (past c r) (ap (λ k. k + 1) same))
 
 -- what the first of these reactors that has a name passes
 abbrev pub at-first : (ReactorPart → Bool) → List ReactorPart → Word → Bool

@@ -1,61 +1,140 @@
 -- In a file within the limits all numbers fit.
-use Rattle.std.proofs.Common.{◌≡◌, ◌+◌, ◌<◌, ◌≤◌, ◌^◌, true, false, ◌||◌, length, pos, unsigned_abs, nat_lt, arith}
+use Rattle.std.proofs.Common.{◌≡◌, ℕ, ◌+◌, ◌<◌, ◌≤◌, ◌^◌, true, false, ◌||◌, List, length, pos, unsigned_abs, nat_lt, arith}
 use Rattle.std.specs.List.{list_all, list_any}
 use Rattle.std.proofs.lemmas.Bool.{or_parts, ltb-false, ltb-true, lt-ltb, leb-true}
-use Rattle.warp_tag.specs.Limits.{longest_stop, most_origins, most_reactors, most_variables, most_ports, most_actions, most_timers, most_reactions, most_links, most_inputs, most_outputs}
-use Rattle.warp_tag.proofs.Forms.{origins_widen}
-use Rattle.warp_prog.specs.File.{File}
-use Rattle.warp_prog.specs.Limits.{first_version, last_version, file_form, total, is_outside, are_more_than, numbers_exceed, lists_exceed, totals_exceed, parts_exceed, timers_exceed, exceeds_limits, reactor_exceeds, link_exceeds, origin_exceeds}
-use Rattle.warp_prog.specs.Numbered.{nothing_before}
+use Rattle.warp_tag.specs.Limits.{widest, longest_stop, most_origins, most_reactors, most_variables, most_ports, most_actions, most_timers, most_reactions, most_links, most_inputs, most_outputs}
+use Rattle.warp_tag.specs.declared.form.Form.{Form}
+use Rattle.warp_tag.specs.declared.form.Form.TheVariants.{One, Two, Three, Four}
+use Rattle.warp_tag.proofs.Forms.{origins_widen, reactors_widen, variables_widen, ports_widen, actions_widen, timers_widen}
+use Rattle.warp_prog.specs.Exceeds.{exceeds_limits}
+use Rattle.warp_prog.specs.File.{File, ReactorPart}
+use Rattle.warp_prog.specs.Limits.{begin_exceeds, cells_of, file_form, total, is_outside, are_more_than, most_arrays, most_cells, most_scalars, numbers_exceed, lists_exceed, totals_exceed, parts_exceed, timers_exceed, reactor_exceeds, link_exceeds, origin_exceeds}
+use Rattle.warp_prog.specs.Numbered.{file_front, nothing_before, variables_in}
+use Rattle.warp_prog.specs.Version.{first_version, last_version}
+use Rattle.warp_prog.specs.Work.{work_exceeds}
 use Rattle.warp_prog.specs.declared.file.InputPart.{InputPart}
 use Rattle.warp_prog.specs.inner.Room.{HaveRoom}
+use Rattle.warp_prog.proofs.Loops.{loops_fit}
 use Rattle.warp_prog.proofs.Ranges.{all-since, in-range, is-origin}
 
--- four of the five parts of the limits
-pub limits_kept : (f : File) → exceeds_limits f ≡ false → (numbers_exceed f ≡ false) × (lists_exceed f ≡ false) × (totals_exceed f.reactors ≡ false) × (parts_exceed f ≡ false)
+-- the parts of the limits that numbers rest on
+pub record Kept (f : File) : Type 0 where
+  pub numbers : numbers_exceed f ≡ false
+  pub lists : lists_exceed f ≡ false
+  pub totals : totals_exceed (file_form f) f.reactors ≡ false
+  pub parts : parts_exceed f ≡ false
+
+pub limits_kept : (f : File) → exceeds_limits f ≡ false → Kept f
 limits_kept f h =
-    let four = or_parts (numbers_exceed f || lists_exceed f || totals_exceed f.reactors || parts_exceed f) (timers_exceed f) h in
-    let three = or_parts (numbers_exceed f || lists_exceed f || totals_exceed f.reactors) (parts_exceed f) four.0 in
-    let two = or_parts (numbers_exceed f || lists_exceed f) (totals_exceed f.reactors) three.0 in
-    let one = or_parts (numbers_exceed f) (lists_exceed f) two.0 in
-    (one.0, one.1, two.1, three.1)
+    let n = numbers_exceed f in
+    let b = begin_exceeds f.begin in
+    let l = lists_exceed f in
+    let t = totals_exceed (file_form f) f.reactors in
+    let p = parts_exceed f in
+    let five = or_parts (n || b || l || t || p || timers_exceed f) (work_exceeds f) h in
+    let four = or_parts (n || b || l || t || p) (timers_exceed f) five.0 in
+    let three = or_parts (n || b || l || t) p four.0 in
+    let two = or_parts (n || b || l) t three.0 in
+    let one = or_parts (n || b) l two.0 in
+    record { numbers = (or_parts n b one.0).0; lists = one.1; totals = two.1; parts = three.1 }
+
+-- how many things of each kind reactors have together
+pub record Totals (form : Form) (rs : List ReactorPart) : Type 0 where
+  pub variables : total (λ r. length r.variables) rs ≤ most_scalars form
+  pub cells : total (λ r. cells_of r.arrays) rs ≤ most_cells form
+  pub ports : total (λ r. length r.inputs + length r.outputs) rs ≤ most_ports form
+  pub actions : total (λ r. length r.actions) rs ≤ most_actions form
+  pub timers : total (λ r. length r.timers) rs ≤ most_timers form
+  pub reactions : total (λ r. length r.reactions) rs ≤ most_reactions form
+
+pub totals_kept : (form : Form) (rs : List ReactorPart) → totals_exceed form rs ≡ false → Totals form rs
+totals_kept form rs h =
+    let variables = total (λ (r : ReactorPart). length r.variables) rs in
+    let arrays = total (λ (r : ReactorPart). length r.arrays) rs in
+    let cells = total (λ (r : ReactorPart). cells_of r.arrays) rs in
+    let ports = total (λ (r : ReactorPart). length r.inputs + length r.outputs) rs in
+    let actions = total (λ (r : ReactorPart). length r.actions) rs in
+    let timers = total (λ (r : ReactorPart). length r.timers) rs in
+    let reactions = total (λ (r : ReactorPart). length r.reactions) rs in
+    let v = nat_lt (most_scalars form) variables in
+    let a = nat_lt (most_arrays form) arrays in
+    let c = nat_lt (most_cells form) cells in
+    let p = nat_lt (most_ports form) ports in
+    let s = nat_lt (most_actions form) actions in
+    let t = nat_lt (most_timers form) timers in
+    let six = or_parts (v || a || c || p || s || t) (nat_lt (most_reactions form) reactions) h in
+    let five = or_parts (v || a || c || p || s) t six.0 in
+    let four = or_parts (v || a || c || p) s five.0 in
+    let three = or_parts (v || a || c) p four.0 in
+    let two = or_parts (v || a) c three.0 in
+    let one = or_parts v a two.0 in
+    record {
+      variables = ltb-false (most_scalars form) variables one.0;
+      cells = ltb-false (most_cells form) cells two.1;
+      ports = ltb-false (most_ports form) ports three.1;
+      actions = ltb-false (most_actions form) actions four.1;
+      timers = ltb-false (most_timers form) timers five.1;
+      reactions = ltb-false (most_reactions form) reactions six.1;
+    }
+
+-- variables and cells are together no more than a program has
+pub all_variables : (form : Form) → most_scalars form + most_cells form ≤ most_variables form
+all_variables One = omega arith
+all_variables Two = omega arith
+all_variables Three = omega arith
+all_variables Four = omega arith
+
+up : (n a b : ℕ) → n ≤ a → a ≤ b → n ≤ b
+up n a b small wide = omega (small, wide, arith)
 
 -- there are no more reactors than there may be
-pub few_reactors : (f : File) → exceeds_limits f ≡ false → length f.reactors ≤ most_reactors
+pub few_reactors : (f : File) → exceeds_limits f ≡ false → length f.reactors ≤ most_reactors widest
 few_reactors f h =
-    let reactors = are_more_than most_reactors f.reactors in
-    let links = are_more_than most_links f.links in
-    let inputs = are_more_than most_inputs f.inputs in
-    let three = or_parts (reactors || links || inputs) (are_more_than most_outputs f.outputs) (limits_kept f h).1 in
-    ltb-false most_reactors (length f.reactors) (or_parts reactors links (or_parts (reactors || links) inputs three.0).0).0
+    let form = file_form f in
+    let reactors = are_more_than (most_reactors form) f.reactors in
+    let links = are_more_than (most_links form) f.links in
+    let inputs = are_more_than (most_inputs form) f.inputs in
+    let three = or_parts (reactors || links || inputs) (are_more_than (most_outputs form) f.outputs) (limits_kept f h).lists in
+    let own = ltb-false (most_reactors form) (length f.reactors) (or_parts reactors links (or_parts (reactors || links) inputs three.0).0).0 in
+    up (length f.reactors) (most_reactors form) (most_reactors widest) own (reactors_widen form)
 
--- the numbers of all reactors have room
-pub have_room : (f : File) → exceeds_limits f ≡ false → HaveRoom nothing_before f.reactors
-have_room f h =
-    let variables = total (λ r. length r.variables) f.reactors in
-    let ports = total (λ r. length r.inputs + length r.outputs) f.reactors in
-    let actions = total (λ r. length r.actions) f.reactors in
-    let timers = total (λ r. length r.timers) f.reactors in
-    let v = nat_lt most_variables variables in
-    let p = nat_lt most_ports ports in
-    let a = nat_lt most_actions actions in
-    let t = nat_lt most_timers timers in
-    let four = or_parts (v || p || a || t) (nat_lt most_reactions (total (λ r. length r.reactions) f.reactors)) (limits_kept f h).2 in
-    let three = or_parts (v || p || a) t four.0 in
-    let two = or_parts (v || p) a three.0 in
-    let one = or_parts v p two.0 in
+-- the numbers of all reactors have room, whose cells are numbered from some number of variables on
+room_from : (f : File) → exceeds_limits f ≡ false → (n : ℕ) → n ≤ variables_in f.reactors → HaveRoom (nothing_before n) f.reactors
+room_from f h n few =
+    let form = file_form f in
+    let t = totals_kept form f.reactors (limits_kept f h).totals in
+    let reactors = list_any (reactor_exceeds form) f.reactors in
+    let links = list_any (link_exceeds form) f.links in
+    let inputs = list_any (λ (i : InputPart). origin_exceeds f.origins i.origin) f.inputs in
     record {
       reactors = (let e = few_reactors f h in omega arith);
-      variables = (let e = ltb-false most_variables variables one.0 in omega arith);
-      ports = (let e = ltb-false most_ports ports one.1 in omega arith);
-      actions = (let e = ltb-false most_actions actions two.1 in omega arith);
-      timers = (let e = ltb-false most_timers timers three.1 in omega arith);
+      variables = (let e = t.variables in let w = variables_widen form in let all = all_variables form in omega arith);
+      cells = (let e = t.variables in let c = t.cells in let w = variables_widen form in let all = all_variables form in omega (arith, few, e, c, w, all));
+      ports = (let e = t.ports in let w = ports_widen form in omega arith);
+      actions = (let e = t.actions in let w = actions_widen form in omega arith);
+      timers = (let e = t.timers in let w = timers_widen form in omega arith);
+      loops = loops_fit form f.reactors (or_parts reactors links (or_parts (reactors || links) inputs (limits_kept f h).parts).0).0;
     }
+
+pub have_room : (f : File) → exceeds_limits f ≡ false → HaveRoom (file_front f) f.reactors
+have_room f h = room_from f h (variables_in f.reactors) (omega arith)
+
+pub have_room_alone : (f : File) → exceeds_limits f ≡ false → HaveRoom (nothing_before 0) f.reactors
+have_room_alone f h = room_from f h 0 (omega arith)
+
+-- and there are few variables
+pub few_variables : (f : File) → exceeds_limits f ≡ false → variables_in f.reactors ≤ most_variables widest
+few_variables f h =
+    let form = file_form f in
+    let e = (totals_kept form f.reactors (limits_kept f h).totals).variables in
+    let w = variables_widen form in
+    let all = all_variables form in
+    omega (arith, e, w, all)
 
 -- so do the numbers of origins
 pub origins_fit : (f : File) → exceeds_limits f ≡ false → unsigned_abs f.origins < 2 ^ 32
 origins_fit f h =
-    let origins = or_parts (is_outside (pos first_version) (pos last_version) f.version || is_outside (pos 0) (pos (longest_stop (file_form f))) f.stop) (is_outside (pos 1) (pos (most_origins (file_form f))) f.origins) (limits_kept f h).0 in
+    let origins = or_parts (is_outside (pos first_version) (pos last_version) f.version || is_outside (pos 0) (pos (longest_stop (file_form f))) f.stop) (is_outside (pos 1) (pos (most_origins (file_form f))) f.origins) (limits_kept f h).numbers in
     let e = leb-true (unsigned_abs f.origins) (most_origins (file_form f)) (in-range 1 (most_origins (file_form f)) f.origins origins.1).1 in
     let w = origins_widen (file_form f) in
     omega arith
@@ -64,7 +143,7 @@ origins_fit f h =
 pub each_origin_fits : (f : File) → exceeds_limits f ≡ false → list_all (λ (i : InputPart). nat_lt (unsigned_abs i.origin) (2 ^ 32)) f.inputs ≡ true
 each_origin_fits f h =
     let exceeds = λ (i : InputPart). origin_exceeds f.origins i.origin in
-    let inputs = or_parts (list_any (reactor_exceeds (file_form f)) f.reactors || list_any (link_exceeds (file_form f)) f.links) (list_any exceeds f.inputs) (limits_kept f h).3 in
+    let inputs = or_parts (list_any (reactor_exceeds (file_form f)) f.reactors || list_any (link_exceeds (file_form f)) f.links) (list_any exceeds f.inputs) (limits_kept f h).parts in
     all-since exceeds (λ (i : InputPart). nat_lt (unsigned_abs i.origin) (2 ^ 32))
     (λ i e.
     let below = ltb-true (unsigned_abs i.origin) (unsigned_abs f.origins) (is-origin f.origins i.origin e) in

@@ -4,7 +4,7 @@ use Rattle.std.specs.List.{list_any}
 use Rattle.warp_prog.specs.File.{ReactorPart, ReactionPart}
 use Rattle.warp_prog.specs.Names.{is_known, is_written, reaction_unknown}
 use Rattle.warp_prog.specs.Undeclared.{is_declared, reaction_undeclared}
-use Rattle.warp_prog.specs.Uses.{Use, Reads, Asks, Sets, Puts, Schedules, body_uses, is_trigger}
+use Rattle.warp_prog.specs.Uses.{Use, Reads, Asks, Sets, Puts, Schedules, Indexes, body_uses, is_trigger}
 use Rattle.warp_prog.specs.inner.Rule.{fits, declares, in_role, unknown_in_role}
 
 known_use : (r : ReactorPart) (u : Use) → in_role (λ p name. fits p r name) u ≡ is_known r u
@@ -13,6 +13,7 @@ known_use r (Asks name) = refl
 known_use r (Sets name) = refl
 known_use r (Puts name) = refl
 known_use r (Schedules name) = refl
+known_use r (Indexes name) = refl
 
 declared_use : (r : ReactorPart) (n : ReactionPart) (u : Use) → in_role (λ p name. declares p r n name) u ≡ is_declared r n u
 declared_use r n (Reads name) = refl
@@ -20,6 +21,7 @@ declared_use r n (Asks name) = refl
 declared_use r n (Sets name) = refl
 declared_use r n (Puts name) = refl
 declared_use r n (Schedules name) = refl
+declared_use r n (Indexes name) = refl
 
 -- so a reaction is unknown exactly if a name in it has not its role
 pub unknown_same : (r : ReactorPart) (n : ReactionPart) → unknown_in_role r n ≡ reaction_unknown r n

@@ -1,51 +1,37 @@
 -- Where the parts of a reactor stand in its program, and that its names stand for them.
-use Rattle.std.proofs.Common.{◌≡◌, ℕ, zero, suc, ◌+◌, Bool, true, false, not, ◌&&◌, ◌||◌, ◌==◌, List, [], ◌∷◌, ◌++◌, length, drop, ap, sym, ◌∙◌, refl, zero-add, suc-add, unsigned_abs, eq-eqb, lt-ltb, nat_lt, length-append, arith}
-use Rattle.std.proofs.lemmas.Bool.{cond_both}
+use Rattle.std.proofs.Common.{◌≡◌, ℕ, ◌+◌, Bool, true, false, not, ◌&&◌, ◌||◌, ◌==◌, List, ◌∷◌, ◌++◌, length, drop, ap, sym, ◌∙◌, refl, append_assoc, unsigned_abs, eq-eqb, lt-ltb, nat_lt, length-append, arith}
+use Rattle.std.specs.List.{list_any, list_all}
+use Rattle.std.proofs.lemmas.Bool.{and_parts, cond_both, not-true}
 use Rattle.std.proofs.lemmas.List.{length-map}
 use Rattle.warp_body.specs.declared.place.Target.TheVariants as to
 use Rattle.warp_step.specs.Program.{Program}
-use Rattle.warp_step.specs.Valid.{has, owns_variable, is_readable, is_writable}
+use Rattle.warp_step.specs.Valid.{has, owns_cells, owns_variable, is_readable, is_writable}
 use Rattle.warp_step.specs.declared.parts.Variable.{Variable}
 use Rattle.warp_step.specs.declared.parts.Port.{Port}
 use Rattle.warp_step.specs.declared.parts.Action.{Action}
 use Rattle.warp_step.specs.declared.parts.Timer.{Timer}
-use Rattle.warp_prog.specs.File.{Word, File, ReactorPart}
-use Rattle.warp_prog.specs.Uses.{is_among, variable_names, action_names, timer_names}
-use Rattle.warp_prog.specs.Numbered.{nothing_before, past, in_each, its_variables, its_ports, its_actions, its_timers, numbered, variable_number, input_number, output_number, action_number, timer_number, readable, writable, place_among}
+use Rattle.warp_prog.specs.File.{Word, ReactorPart}
+use Rattle.warp_prog.specs.Limits.{array_exceeds, cells_of}
+use Rattle.warp_prog.specs.Uses.{is_among, variable_names, array_names, action_names, timer_names}
+use Rattle.warp_prog.specs.Numbered.{past, in_each, its_variables, its_cells, its_ports, its_actions, its_timers, variable_number, first_cell, cell_count, input_number, output_number, action_number, timer_number, readable, writable, place_among}
 use Rattle.warp_prog.specs.declared.file.VariablePart.{VariablePart}
 use Rattle.warp_prog.specs.declared.file.ActionPart.{ActionPart}
 use Rattle.warp_prog.specs.declared.file.TimerPart.{TimerPart}
 use Rattle.warp_prog.specs.declared.scope.Before.{Before}
-use Rattle.warp_prog.proofs.Has.{has-drop, has-found, has-first, has-second}
+use Rattle.warp_prog.proofs.ArrayLemmas.{arrays_fit, length-cells, owned}
+use Rattle.warp_prog.proofs.Has.{drop-past, has-drop, has-found, has-first, has-second}
 
--- after so much of the program there stand the parts of these reactors, which are its last
+-- After so much of the program there stand the parts of these reactors, which are its last; behind their variables stand cells. Their
+-- arrays are within the limits.
 pub record Stands (P : Program) (b : Before) (rs : List ReactorPart) : Type 0 where
   pub reactors : b.reactors + length rs ≡ P.reactors
-  pub variables : drop b.variables P.variables ≡ in_each its_variables b rs
+  pub rest : List Variable
+  pub variables : drop b.variables P.variables ≡ in_each its_variables b rs ++ rest
+  pub cells : drop b.cells P.variables ≡ in_each its_cells b rs
+  pub right : list_all arrays_fit rs ≡ true
   pub ports : drop b.ports P.ports ≡ in_each its_ports b rs
   pub actions : drop b.actions P.actions ≡ in_each its_actions b rs
   pub timers : drop b.timers P.timers ≡ in_each its_timers b rs
-
--- at the beginning these are all reactors
-pub stand_all : (f : File) → Stands (numbered f) nothing_before f.reactors
-stand_all f = record { reactors = zero-add (length f.reactors); variables = refl; ports = refl; actions = refl; timers = refl }
-
-drop-nothing : {X : Type 0} (n : ℕ) → drop {A = X} n [] ≡ []
-drop-nothing zero = refl
-drop-nothing (suc n) = refl
-
-drop-more : {X : Type 0} (k n : ℕ) (xs : List X) → drop (k + n) xs ≡ drop n (drop k xs)
-drop-more zero n xs = ap (λ m. drop m xs) (zero-add n)
-drop-more (suc k) n [] = drop-nothing (suc k + n) ∙ sym (drop-nothing n)
-drop-more (suc k) n (x ∷ xs) = ap (λ m. drop m (x ∷ xs)) (suc-add k n) ∙ drop-more k n xs
-
-drop-front : {X : Type 0} (xs ys : List X) → drop (length xs) (xs ++ ys) ≡ ys
-drop-front [] ys = refl
-drop-front (x ∷ xs) ys = drop-front xs ys
-
--- what is left after the front of what was left
-pub drop-past : {X : Type 0} (all xs ys : List X) (k n : ℕ) → drop k all ≡ xs ++ ys → length xs ≡ n → drop (k + n) all ≡ ys
-drop-past all xs ys k n h e = drop-more k n all ∙ ap (drop n) h ∙ ap (λ m. drop m (xs ++ ys)) (sym e) ∙ drop-front xs ys
 
 length-ports : (b : Before) (r : ReactorPart) → length (its_ports b r) ≡ length r.inputs + length r.outputs
 length-ports b r = simp (length-append, length-map)
@@ -54,7 +40,12 @@ length-ports b r = simp (length-append, length-map)
 pub stand_past : (P : Program) (b : Before) (r : ReactorPart) (rs : List ReactorPart) → Stands P b (r ∷ rs) → Stands P (past b r) rs
 stand_past P b r rs s = record {
   reactors = (let h = s.reactors in omega arith);
-  variables = drop-past P.variables (its_variables b r) (in_each its_variables (past b r) rs) b.variables (length r.variables) s.variables (simp length-map);
+  rest = s.rest;
+  variables = drop-past P.variables (its_variables b r) (in_each its_variables (past b r) rs ++ s.rest) b.variables (length r.variables)
+      (s.variables ∙ append_assoc (its_variables b r) (in_each its_variables (past b r) rs) s.rest) (simp length-map);
+  cells = drop-past P.variables (its_cells b r) (in_each its_cells (past b r) rs) b.cells (cells_of r.arrays) s.cells
+      (length-cells b r.arrays (not-true (list_any array_exceeds r.arrays) (and_parts (arrays_fit r) (list_all arrays_fit rs) s.right).0));
+  right = (and_parts (arrays_fit r) (list_all arrays_fit rs) s.right).1;
   ports = drop-past P.ports (its_ports b r) (in_each its_ports (past b r) rs) b.ports (length r.inputs + length r.outputs) s.ports (length-ports b r);
   actions = drop-past P.actions (its_actions b r) (in_each its_actions (past b r) rs) b.actions (length r.actions) s.actions (simp length-map);
   timers = drop-past P.timers (its_timers b r) (in_each its_timers (past b r) rs) b.timers (length r.timers) s.timers (simp length-map);
@@ -75,10 +66,17 @@ module _ (P : Program) (b : Before) (r : ReactorPart) (rs : List ReactorPart) (s
   -- the number of a variable's name is one of the reactor's variables
   pub has_variable : (name : Word) → is_among (variable_names r) name ≡ true → owns_variable P b.reactors (variable_number b r name) ≡ true
   has_variable name h =
-      has-left P.variables (its_variables b r ++ in_each its_variables (past b r) rs) b.variables (place_among (variable_names r) name)
-      (λ (v : Variable). v.reactor == b.reactors) s.variables
-      (has-found (λ (v : VariablePart). v.name) (λ (v : VariablePart). record { reactor = b.reactors; start = v.start })
-      (λ (v : Variable). v.reactor == b.reactors) name (λ x e. same b.reactors) r.variables (in_each its_variables (past b r) rs) h)
+      has-left P.variables (its_variables b r ++ (in_each its_variables (past b r) rs ++ s.rest)) b.variables (place_among (variable_names r) name)
+      (λ (v : Variable). v.reactor == b.reactors) (s.variables ∙ append_assoc (its_variables b r) (in_each its_variables (past b r) rs) s.rest)
+      (has-found (λ (v : VariablePart). v.name)
+      (λ (v : VariablePart). record { reactor = b.reactors; is_told = not (is_among r.hidden v.name); start = v.start })
+      (λ (v : Variable). v.reactor == b.reactors) name (λ x e. same b.reactors) r.variables (in_each its_variables (past b r) rs ++ s.rest) h)
+
+  -- and the cells of an array's name are all the reactor's
+  pub has_cells : (name : Word) → is_among (array_names r) name ≡ true → owns_cells P b.reactors (first_cell b r name) (cell_count r name) ≡ true
+  has_cells name h =
+      owned P.variables b r.arrays (in_each its_cells (past b r) rs) b.cells name
+      (not-true (list_any array_exceeds r.arrays) (and_parts (arrays_fit r) (list_all arrays_fit rs) s.right).0) s.cells h
 
   -- that of an action's name is one of its actions, and of a timer's one of its timers
   pub has_action : (name : Word) → is_among (action_names r) name ≡ true →

@@ -1,11 +1,11 @@
 -- Statements: which rows a list of values has, and statements one after another.
-use Rattle.std.proofs.Common.{◌≡◌, List, ◌∷◌, [], ◌++◌, ◌<◌, ◌≤◌, arith, length, Option, None, option_map, map, drop, ◌+◌, Some, true, false, not, true≢false, Bool, ℕ, get_or, codes, bytes_eq, sym, ◌∙◌, refl, ap}
+use Rattle.std.proofs.Common.{◌≡◌, List, ◌∷◌, [], ◌++◌, ◌<◌, ◌≤◌, arith, length, Option, None, option_map, map, drop, ◌+◌, Some, true, false, ℕ, get_or, codes, bytes_eq, sym, ◌∙◌, refl, ap}
 use Rattle.std.proofs.lemmas.List.{map-append, at_drop_more, drop_all}
 use Rattle.serde_json.specs.View.{view, items_view}
 use Rattle.serde_json.specs.declared.value.Value.{Value}
 use Rattle.serde_json.specs.Data.{Data, array, Items, item}
 use Rattle.warp_prog.specs.File.{NamedStatement, NamedBody, NamedDone, NamedThen}
-use Rattle.warp_prog.specs.Statements.{statement_of, statements_of, body_of, assignment_of, scheduling_of, choice_of}
+use Rattle.warp_prog.specs.Statements.{statement_of, statements_of, body_of, assignment_of, scheduling_of, choice_of, cell_set_of, loop_of}
 use Rattle.warp_prog.specs.inner.Read.{first_word}
 use Rattle.warp_prog.specs.View.{body_tree, statement_tree}
 use Rattle.warp_prog.specs.declared.file.Statement.{Statement}
@@ -62,14 +62,6 @@ pub all_read : (done : List Statement) (vs : List Value) (i : ℕ) → length vs
     → and_then (map statement_tree done) (statements_of (items_view (drop i vs))) ≡ Some (body_tree (map statement_tree done))
 all_read done vs i past = rw (drop_all i vs past) (ap Some (joined_whole (map statement_tree done)))
 
-was_true : (b : Bool) → false ≡ not b → b ≡ true
-was_true true e = refl
-was_true false e = absurd (true≢false (sym e))
-
-was_false : (b : Bool) → true ≡ not b → b ≡ false
-was_false true e = absurd (true≢false e)
-was_false false e = refl
-
 -- the rows of an assignment and of a scheduling, of what a match on three and four items knows
 pub assignment_row : (vs : List Value) (w : List ℕ) (x y : Value) → 3 ≤ length vs → length vs < 4 → first_word (items_view vs) ≡ Some w
     → x ≡ get_or vs 1 x → y ≡ get_or vs 2 y → statement_of (array (items_view vs)) ≡ assignment_of w (view x) (view y)
@@ -80,25 +72,45 @@ assignment_row (a ∷ (b ∷ (c ∷ []))) w x y few many word at_x at_y = rw (at
 assignment_row (a ∷ (b ∷ (c ∷ (d ∷ vs)))) w x y few many word at_x at_y = absurd (omega (arith, many))
 
 pub scheduling_row : (vs : List Value) (w : List ℕ) (x y z : Value) → 4 ≤ length vs → length vs < 5 → first_word (items_view vs) ≡ Some w
-    → x ≡ get_or vs 1 x → y ≡ get_or vs 2 y → z ≡ get_or vs 3 z → true ≡ not (bytes_eq w (codes "if"))
+    → x ≡ get_or vs 1 x → y ≡ get_or vs 2 y → z ≡ get_or vs 3 z → false ≡ bytes_eq w (codes "if") → false ≡ bytes_eq w (codes "while") → false ≡ bytes_eq w (codes "setat")
     → statement_of (array (items_view vs)) ≡ scheduling_of w (view x) (view y) (view z)
-scheduling_row [] w x y z few many word at_x at_y at_z is_other = absurd (omega (arith, few))
-scheduling_row (a ∷ []) w x y z few many word at_x at_y at_z is_other = absurd (omega (arith, few))
-scheduling_row (a ∷ (b ∷ [])) w x y z few many word at_x at_y at_z is_other = absurd (omega (arith, few))
-scheduling_row (a ∷ (b ∷ (c ∷ []))) w x y z few many word at_x at_y at_z is_other = absurd (omega (arith, few))
-scheduling_row (a ∷ (b ∷ (c ∷ (d ∷ [])))) w x y z few many word at_x at_y at_z is_other = rw (at_x, at_y, at_z, word, was_false _ is_other) refl
-scheduling_row (a ∷ (b ∷ (c ∷ (d ∷ (e ∷ vs))))) w x y z few many word at_x at_y at_z is_other = absurd (omega (arith, many))
+scheduling_row [] w x y z few many word at_x at_y at_z no_if no_loop no_cell = absurd (omega (arith, few))
+scheduling_row (a ∷ []) w x y z few many word at_x at_y at_z no_if no_loop no_cell = absurd (omega (arith, few))
+scheduling_row (a ∷ (b ∷ [])) w x y z few many word at_x at_y at_z no_if no_loop no_cell = absurd (omega (arith, few))
+scheduling_row (a ∷ (b ∷ (c ∷ []))) w x y z few many word at_x at_y at_z no_if no_loop no_cell = absurd (omega (arith, few))
+scheduling_row (a ∷ (b ∷ (c ∷ (d ∷ [])))) w x y z few many word at_x at_y at_z no_if no_loop no_cell = rw (at_x, at_y, at_z, word, sym no_if, sym no_loop, sym no_cell) refl
+scheduling_row (a ∷ (b ∷ (c ∷ (d ∷ (e ∷ vs))))) w x y z few many word at_x at_y at_z no_if no_loop no_cell = absurd (omega (arith, many))
 
--- the row of `if`, of what a match on four items knows
+-- those of `if`, of `while` and of `setat`, of what a match on four items knows
 pub choice_row : (vs : List Value) (w : List ℕ) (x y z : Value) → 4 ≤ length vs → length vs < 5 → first_word (items_view vs) ≡ Some w
-    → x ≡ get_or vs 1 x → y ≡ get_or vs 2 y → z ≡ get_or vs 3 z → false ≡ not (bytes_eq w (codes "if"))
+    → x ≡ get_or vs 1 x → y ≡ get_or vs 2 y → z ≡ get_or vs 3 z → true ≡ bytes_eq w (codes "if")
     → statement_of (array (items_view vs)) ≡ choice_of (view x) (body_of (view y)) (body_of (view z))
 choice_row [] w x y z few many word at_x at_y at_z is_if = absurd (omega (arith, few))
 choice_row (a ∷ []) w x y z few many word at_x at_y at_z is_if = absurd (omega (arith, few))
 choice_row (a ∷ (b ∷ [])) w x y z few many word at_x at_y at_z is_if = absurd (omega (arith, few))
 choice_row (a ∷ (b ∷ (c ∷ []))) w x y z few many word at_x at_y at_z is_if = absurd (omega (arith, few))
-choice_row (a ∷ (b ∷ (c ∷ (d ∷ [])))) w x y z few many word at_x at_y at_z is_if = rw (at_x, at_y, at_z, word, was_true _ is_if) refl
+choice_row (a ∷ (b ∷ (c ∷ (d ∷ [])))) w x y z few many word at_x at_y at_z is_if = rw (at_x, at_y, at_z, word, sym is_if) refl
 choice_row (a ∷ (b ∷ (c ∷ (d ∷ (e ∷ vs))))) w x y z few many word at_x at_y at_z is_if = absurd (omega (arith, many))
+
+pub loop_row : (vs : List Value) (w : List ℕ) (x y z : Value) → 4 ≤ length vs → length vs < 5 → first_word (items_view vs) ≡ Some w
+    → x ≡ get_or vs 1 x → y ≡ get_or vs 2 y → z ≡ get_or vs 3 z → false ≡ bytes_eq w (codes "if") → true ≡ bytes_eq w (codes "while")
+    → statement_of (array (items_view vs)) ≡ loop_of (view x) (view y) (body_of (view z))
+loop_row [] w x y z few many word at_x at_y at_z no_if is_loop = absurd (omega (arith, few))
+loop_row (a ∷ []) w x y z few many word at_x at_y at_z no_if is_loop = absurd (omega (arith, few))
+loop_row (a ∷ (b ∷ [])) w x y z few many word at_x at_y at_z no_if is_loop = absurd (omega (arith, few))
+loop_row (a ∷ (b ∷ (c ∷ []))) w x y z few many word at_x at_y at_z no_if is_loop = absurd (omega (arith, few))
+loop_row (a ∷ (b ∷ (c ∷ (d ∷ [])))) w x y z few many word at_x at_y at_z no_if is_loop = rw (at_x, at_y, at_z, word, sym no_if, sym is_loop) refl
+loop_row (a ∷ (b ∷ (c ∷ (d ∷ (e ∷ vs))))) w x y z few many word at_x at_y at_z no_if is_loop = absurd (omega (arith, many))
+
+pub cell_set_row : (vs : List Value) (w : List ℕ) (x y z : Value) → 4 ≤ length vs → length vs < 5 → first_word (items_view vs) ≡ Some w
+    → x ≡ get_or vs 1 x → y ≡ get_or vs 2 y → z ≡ get_or vs 3 z → false ≡ bytes_eq w (codes "if") → false ≡ bytes_eq w (codes "while") → true ≡ bytes_eq w (codes "setat")
+    → statement_of (array (items_view vs)) ≡ cell_set_of (view x) (view y) (view z)
+cell_set_row [] w x y z few many word at_x at_y at_z no_if no_loop is_cell = absurd (omega (arith, few))
+cell_set_row (a ∷ []) w x y z few many word at_x at_y at_z no_if no_loop is_cell = absurd (omega (arith, few))
+cell_set_row (a ∷ (b ∷ [])) w x y z few many word at_x at_y at_z no_if no_loop is_cell = absurd (omega (arith, few))
+cell_set_row (a ∷ (b ∷ (c ∷ []))) w x y z few many word at_x at_y at_z no_if no_loop is_cell = absurd (omega (arith, few))
+cell_set_row (a ∷ (b ∷ (c ∷ (d ∷ [])))) w x y z few many word at_x at_y at_z no_if no_loop is_cell = rw (at_x, at_y, at_z, word, sym no_if, sym no_loop, sym is_cell) refl
+cell_set_row (a ∷ (b ∷ (c ∷ (d ∷ (e ∷ vs))))) w x y z few many word at_x at_y at_z no_if no_loop is_cell = absurd (omega (arith, many))
 
 -- the item at this place is no statement
 pub none_read : (done : List NamedStatement) (vs : List Value) (i : ℕ) (v : Value) → i < length vs → v ≡ get_or vs i v → statement_of (view v) ≡ None

@@ -1,9 +1,14 @@
 -- The account of a program, as `warpd check` prints it.
-use Rattle.std.specs.Prelude.{ℕ, List, [], ◌∷◌, ◌++◌, codes, length, if◌then◌else◌}
+use Rattle.std.specs.Prelude.{◌≡◌, ℕ, List, [], ◌∷◌, ◌++◌, Ok, codes, length, slice_get, if◌then◌else◌}
+use Rattle.std.specs.Option.{option_map_or}
+use Rattle.warp_prog.specs.declared.limits.work.Work.{Work}
 use Rattle.warp_step.specs.Program.{Program}
 use Rattle.warp_prog.specs.Canonical.{fingerprint_of}
 use Rattle.warp_prog.specs.Explain.{Names, counted, numbers_text, summary_line}
+use Rattle.warp_prog.specs.File.{File}
 use Rattle.warp_prog.specs.NamesLine.{names_text}
+use Rattle.warp_prog.specs.Reading.{reading_of}
+use Rattle.warp_prog.specs.Work.{IsWork}
 use Rattle.warp_prog.specs.OwnRows.{own_outputs, own_rows}
 use Rattle.warp_prog.specs.declared.explain.account.AccountOptions.{AccountOptions}
 
@@ -24,7 +29,7 @@ names_line P names = names_text P names ++ 10 ∷ []
 -- how much is in a program with these labels, with its numbers and its rows where they are asked for
 abbrev pub measures_text : Program → Names → AccountOptions → List ℕ
 measures_text P names options =
-    summary_line (length names.reactors) P ++ (if options.numbers then numbers_text P names else [])
+    summary_line names P ++ (if options.numbers then numbers_text P names else [])
     ++ (if options.rows then rows_line P else [])
 
 -- which program it is, by its text and its labels, where that is asked for
@@ -32,6 +37,20 @@ abbrev pub identity_text : Program → Names → List ℕ → AccountOptions →
 identity_text P names canonical options =
     (if options.fingerprint then fingerprint_line canonical else []) ++ (if options.names then names_line P names else [])
 
--- what is told of a program with these labels and this text
-abbrev pub account_text : Program → Names → List ℕ → AccountOptions → List ℕ
-account_text P names canonical options = measures_text P names options ++ identity_text P names canonical options
+-- which reaction of which reactor is the most work, where there is one
+abbrev pub most_part : Names → Work → List ℕ
+most_part names w =
+    option_map_or (λ reactor. counted (codes ", reaction") w.reaction ++ codes " of " ++ reactor) (slice_get names.reactors w.reactor) []
+
+-- how much work the reactions of a program are, in a line
+abbrev pub work_line : Names → Work → List ℕ
+work_line names w = counted (codes "work") w.all ++ counted (codes ", of a reaction at most") w.most ++ most_part names w ++ 10 ∷ []
+
+-- what is told of a program with these labels, this work and this text
+abbrev pub account_text : Program → Names → Work → List ℕ → AccountOptions → List ℕ
+account_text P names work canonical options =
+    measures_text P names options ++ (if options.work then work_line names work else []) ++ identity_text P names canonical options
+
+-- bytes are a file whose reactions are so much work
+abbrev pub IsWorked : List ℕ → Work → Type 0
+IsWorked bytes work = (f : File) × (reading_of bytes ≡ Ok f) × IsWork f work

@@ -59,6 +59,15 @@ abbrev pub three_items : Items → Option (Data × Data × Data)
 three_items (item a (item b (item c no_items))) = Some (a, b, c)
 three_items _ = None
 
+-- four items
+abbrev pub four_items : Items → Option (Data × Data × Data × Data)
+four_items (item a (item b (item c (item d no_items)))) = Some (a, b, c, d)
+four_items _ = None
+
+-- the four values of a list of four
+abbrev pub four_of : Data → Option (Data × Data × Data × Data)
+four_of d = as_array d >>= four_items
+
 -- the two values of a list of two
 abbrev pub pair_of : Data → Option (Data × Data)
 pair_of d = as_array d >>= two_items

@@ -3,10 +3,14 @@ pub mod View
 pub mod Chain
 pub mod Word
 pub mod Json
+pub mod Version
+pub mod Later
 pub mod Terms
 pub mod Statements
 pub mod Shape
 pub mod Limits
+pub mod Work
+pub mod Exceeds
 pub mod Uses
 pub mod Names
 pub mod Twice

@@ -1,33 +1,28 @@
 -- A file that goes past a limit: a number outside its range, too many things, or a body that is too deep or schedules
 -- too often. The version decides how wide the ranges are.
-use Rattle.std.specs.Prelude.{ℕ, ℤ, pos, ◌+◌, ◌-◌, ◌/◌, max, nat_lt, unsigned_abs, Bool, false, ◌||◌, ◌==◌, List, [], ◌∷◌, ◌++◌, length, Option, Some, None, if◌then◌else◌}
+use Rattle.std.specs.Prelude.{ℕ, ℤ, pos, ◌+◌, ◌-◌, ◌*◌, ◌/◌, max, nat_lt, unsigned_abs, Bool, true, false, ◌||◌, ◌==◌, List, [], ◌∷◌, ◌++◌, length, Option, Some, None, if◌then◌else◌}
 use Rattle.std.specs.List.{list_any}
 use Rattle.std.specs.Int.Signed.{le_z, lt_z}
 use Rattle.std.specs.Ordering.{int_eq}
-use Rattle.warp_tag.specs.Limits.{longest_stop, longest_period, most_origins, most_reactors, most_variables, most_ports, most_reactions, most_actions, most_timers, most_links, most_inputs, most_outputs, most_wishes}
+use Rattle.warp_tag.specs.Limits.{longest_stop, longest_period, most_origins, most_reactors, most_ports, most_reactions, most_actions, most_timers, most_links, most_inputs, most_outputs, most_wishes}
 use Rattle.warp_tag.specs.declared.form.Form.{Form}
-use Rattle.warp_tag.specs.declared.form.Form.TheVariants.{One, Two, Three}
-use Rattle.warp_prog.specs.File.{File, ReactorPart, ReactionPart, NamedTerm, Literal, Named, PresentNamed, OneNamed, TwoNamed, ChoiceNamed, NamedStatement, SetNamed, PutNamed, ScheduleNamed, ChooseNamed, NamedBody, NamedDone, NamedThen}
+use Rattle.warp_tag.specs.declared.form.Form.TheVariants.{One, Two, Three, Four}
+use Rattle.warp_prog.specs.File.{File, ReactorPart, ReactionPart, ArrayPart, StartPart, OfAll, OfEach, BeginPart}
+use Rattle.warp_prog.specs.File.{NamedTerm, Literal, Named, PresentNamed, OneNamed, TwoNamed, ChoiceNamed, ProductNamed, CellNamed, TimeNamed, MicrostepNamed}
+use Rattle.warp_prog.specs.File.{NamedStatement, SetNamed, PutNamed, ScheduleNamed, ChooseNamed, SetCellNamed, RepeatNamed, NamedBody, NamedDone, NamedThen}
+use Rattle.warp_prog.specs.Version.{first_version, third_version, last_version}
 use Rattle.warp_prog.specs.declared.file.ActionPart.{ActionPart}
 use Rattle.warp_prog.specs.declared.file.TimerPart.{TimerPart}
 use Rattle.warp_prog.specs.declared.file.LinkPart.{LinkPart}
 use Rattle.warp_prog.specs.declared.file.InputPart.{InputPart}
 
--- the versions of the format
-abbrev pub first_version : ℕ
-first_version = 1
-
-abbrev pub second_version : ℕ
-second_version = 2
-
-abbrev pub last_version : ℕ
-last_version = 3
-
--- the form of a version: that of the first is the first, that of the last the third, that of any other the second; one that
--- is not known is refused itself
+-- the form of a version: that of the first is the first, that of the third the third, that of the last the fourth, that of any
+-- other the second; one that is not known is refused itself
 abbrev pub form_of_version : ℤ → Form
 form_of_version version =
-    if int_eq version (pos first_version) then One else (if int_eq version (pos last_version) then Three else Two)
+    if int_eq version (pos first_version) then One
+    else (if int_eq version (pos third_version) then Three
+    else (if int_eq version (pos last_version) then Four else Two))
 
 -- the form of a file, by its version
 abbrev pub file_form : File → Form
@@ -36,6 +31,33 @@ file_form f = form_of_version f.version
 -- how deep an expression may be, and a list of statements
 abbrev pub deepest : ℕ
 deepest = 24
+
+-- how many variables a file may have, beside the cells of arrays
+abbrev pub most_scalars : Form → ℕ
+most_scalars One = 256
+most_scalars Two = 256
+most_scalars Three = 256
+most_scalars Four = 1024
+
+-- how many arrays a file may have, how many cells one of them, and how many all together; files before version 4 have none
+abbrev pub most_arrays : Form → ℕ
+most_arrays One = 0
+most_arrays Two = 0
+most_arrays Three = 0
+most_arrays Four = 256
+
+abbrev pub longest_array : ℕ
+longest_array = 65536
+
+abbrev pub most_cells : Form → ℕ
+most_cells One = 0
+most_cells Two = 0
+most_cells Three = 0
+most_cells Four = 65536
+
+-- how often a loop may turn
+abbrev pub most_turns : ℕ
+most_turns = 65536
 
 -- a number that is not one of `low` to `high`
 abbrev pub is_outside : ℤ → ℤ → ℤ → Bool
@@ -62,6 +84,10 @@ term_depth (PresentNamed name) = 1
 term_depth (OneNamed op a) = 1 + term_depth a
 term_depth (TwoNamed op a b) = 1 + max (term_depth a) (term_depth b)
 term_depth (ChoiceNamed c a b) = 1 + max (term_depth c) (max (term_depth a) (term_depth b))
+term_depth (ProductNamed a b c) = 1 + max (term_depth a) (max (term_depth b) (term_depth c))
+term_depth (CellNamed name index) = 1 + term_depth index
+term_depth TimeNamed = 1
+term_depth MicrostepNamed = 1
 
 abbrev mutual
   -- how deep a statement is; its expressions do not count
@@ -70,6 +96,8 @@ abbrev mutual
   statement_depth (PutNamed name e) = 1
   statement_depth (ScheduleNamed name delay e) = 1
   statement_depth (ChooseNamed e first second) = 1 + max (body_depth first) (body_depth second)
+  statement_depth (SetCellNamed name index e) = 1
+  statement_depth (RepeatNamed most e body) = 1 + body_depth body
 
   -- how deep a list of statements is
   pub body_depth : NamedBody → ℕ
@@ -83,6 +111,8 @@ abbrev mutual
   statement_terms (PutNamed name e) = e ∷ []
   statement_terms (ScheduleNamed name delay e) = e ∷ []
   statement_terms (ChooseNamed e first second) = e ∷ (body_terms first ++ body_terms second)
+  statement_terms (SetCellNamed name index e) = index ∷ e ∷ []
+  statement_terms (RepeatNamed most e body) = e ∷ body_terms body
 
   -- the expressions of a list of statements
   pub body_terms : NamedBody → List NamedTerm
@@ -90,29 +120,81 @@ abbrev mutual
   body_terms (NamedThen s ss) = statement_terms s ++ body_terms ss
 
 abbrev mutual
-  -- the delays of the schedulings of a statement, as written, also in both lists of an `if`
+  -- the delays of the schedulings of a statement, as written, also in both lists of an `if` and in that of a `while`
   pub statement_delays : NamedStatement → List ℤ
   statement_delays (SetNamed name e) = []
   statement_delays (PutNamed name e) = []
   statement_delays (ScheduleNamed name delay e) = delay ∷ []
   statement_delays (ChooseNamed e first second) = body_delays first ++ body_delays second
+  statement_delays (SetCellNamed name index e) = []
+  statement_delays (RepeatNamed most e body) = body_delays body
 
   -- the delays of the schedulings of a list of statements
   pub body_delays : NamedBody → List ℤ
   body_delays NamedDone = []
   body_delays (NamedThen s ss) = statement_delays s ++ body_delays ss
 
+abbrev mutual
+  -- how often a statement schedules: as written, also in both lists of an `if`, and in that of a loop as often as it may turn
+  pub statement_wishes : NamedStatement → ℕ
+  statement_wishes (SetNamed name e) = 0
+  statement_wishes (PutNamed name e) = 0
+  statement_wishes (ScheduleNamed name delay e) = 1
+  statement_wishes (ChooseNamed e first second) = body_wishes first + body_wishes second
+  statement_wishes (SetCellNamed name index e) = 0
+  statement_wishes (RepeatNamed most e body) = unsigned_abs most * body_wishes body
+
+  -- how often a list of statements does
+  pub body_wishes : NamedBody → ℕ
+  body_wishes NamedDone = 0
+  body_wishes (NamedThen s ss) = statement_wishes s + body_wishes ss
+
+abbrev mutual
+  -- how often the loops of a statement may turn, each as written
+  pub statement_mosts : NamedStatement → List ℤ
+  statement_mosts (SetNamed name e) = []
+  statement_mosts (PutNamed name e) = []
+  statement_mosts (ScheduleNamed name delay e) = []
+  statement_mosts (ChooseNamed e first second) = body_mosts first ++ body_mosts second
+  statement_mosts (SetCellNamed name index e) = []
+  statement_mosts (RepeatNamed most e body) = most ∷ body_mosts body
+
+  -- how often those of a list of statements may
+  pub body_mosts : NamedBody → List ℤ
+  body_mosts NamedDone = []
+  body_mosts (NamedThen s ss) = statement_mosts s ++ body_mosts ss
+
+-- a loop that may turn too often, or never
+abbrev pub most_exceeds : ℤ → Bool
+most_exceeds most = is_outside (pos 1) (pos most_turns) most
+
 -- an expression that is too deep
 abbrev pub is_too_deep : NamedTerm → Bool
 is_too_deep e = nat_lt deepest (term_depth e)
 
--- a body that is too deep or schedules too often, or in which an expression is too deep or a delay is outside its range
+-- a body that is too deep or schedules too often, or in which an expression is too deep or a delay or the most turns of a loop are
+-- outside their range
 abbrev pub body_exceeds : Form → NamedBody → Bool
 body_exceeds form b =
     list_any is_too_deep (body_terms b)
     || nat_lt deepest (body_depth b)
     || list_any (period_exceeds form) (body_delays b)
-    || are_more_than most_wishes (body_delays b)
+    || list_any most_exceeds (body_mosts b)
+    || nat_lt most_wishes (body_wishes b)
+
+-- more starts than cells, of which there are so many
+abbrev pub starts_exceed : ℤ → StartPart → Bool
+starts_exceed count (OfAll n) = false
+starts_exceed count (OfEach ns) = nat_lt (unsigned_abs count) (length ns)
+
+-- an array with too few or too many cells, or with more starts than cells
+abbrev pub array_exceeds : ArrayPart → Bool
+array_exceeds a = is_outside (pos 1) (pos longest_array) a.count || starts_exceed a.count a.start
+
+-- how many cells these arrays have together
+abbrev pub cells_of : List ArrayPart → ℕ
+cells_of [] = 0
+cells_of (a ∷ rest) = unsigned_abs a.count + cells_of rest
 
 -- an action whose delay is outside its range
 abbrev pub action_exceeds : Form → ActionPart → Bool
@@ -129,24 +211,34 @@ reaction_exceeds form n = body_exceeds form n.body
 -- a reactor in which one of these stands
 abbrev pub reactor_exceeds : Form → ReactorPart → Bool
 reactor_exceeds form r =
-    list_any (action_exceeds form) r.actions || list_any (timer_exceeds form) r.timers || list_any (reaction_exceeds form) r.reactions
+    list_any array_exceeds r.arrays
+    || list_any (action_exceeds form) r.actions
+    || list_any (timer_exceeds form) r.timers
+    || list_any (reaction_exceeds form) r.reactions
 
 -- more of a kind in all reactors together than there may be
-abbrev pub totals_exceed : List ReactorPart → Bool
-totals_exceed rs =
-    nat_lt most_variables (total (λ r. length r.variables) rs)
-    || nat_lt most_ports (total (λ r. length r.inputs + length r.outputs) rs)
-    || nat_lt most_actions (total (λ r. length r.actions) rs)
-    || nat_lt most_timers (total (λ r. length r.timers) rs)
-    || nat_lt most_reactions (total (λ r. length r.reactions) rs)
+abbrev pub totals_exceed : Form → List ReactorPart → Bool
+totals_exceed form rs =
+    nat_lt (most_scalars form) (total (λ r. length r.variables) rs)
+    || nat_lt (most_arrays form) (total (λ r. length r.arrays) rs)
+    || nat_lt (most_cells form) (total (λ r. cells_of r.arrays) rs)
+    || nat_lt (most_ports form) (total (λ r. length r.inputs + length r.outputs) rs)
+    || nat_lt (most_actions form) (total (λ r. length r.actions) rs)
+    || nat_lt (most_timers form) (total (λ r. length r.timers) rs)
+    || nat_lt (most_reactions form) (total (λ r. length r.reactions) rs)
 
 -- more reactors, links, program inputs or program outputs than there may be
 abbrev pub lists_exceed : File → Bool
 lists_exceed f =
-    are_more_than most_reactors f.reactors
-    || are_more_than most_links f.links
-    || are_more_than most_inputs f.inputs
-    || are_more_than most_outputs f.outputs
+    are_more_than (most_reactors (file_form f)) f.reactors
+    || are_more_than (most_links (file_form f)) f.links
+    || are_more_than (most_inputs (file_form f)) f.inputs
+    || are_more_than (most_outputs (file_form f)) f.outputs
+
+-- a file that goes on from another one: none is run yet that does
+abbrev pub begin_exceeds : Option BeginPart → Bool
+begin_exceeds None = false
+begin_exceeds (Some b) = true
 
 -- a version, a stop or a number of origins outside its range
 abbrev pub numbers_exceed : File → Bool
@@ -175,7 +267,7 @@ parts_exceed f =
     || list_any (link_exceeds (file_form f)) f.links
     || list_any (λ (i : InputPart). origin_exceeds f.origins i.origin) f.inputs
 
--- so many outputs the timers of a file of the third form may put by themselves, and so many times they may be due
+-- so many outputs the timers of a file of the third form or the fourth may put by themselves, and so many times they may be due
 abbrev pub most_own : ℕ
 most_own = 20000000
 
@@ -200,10 +292,7 @@ abbrev pub timers_exceed_in : Form → File → Bool
 timers_exceed_in One f = false
 timers_exceed_in Two f = false
 timers_exceed_in Three f = due_exceeds f.stop (length f.outputs) f.reactors
+timers_exceed_in Four f = due_exceeds f.stop (length f.outputs) f.reactors
 
 abbrev pub timers_exceed : File → Bool
 timers_exceed f = timers_exceed_in (file_form f) f
-
--- a file that goes past a limit
-abbrev pub exceeds_limits : File → Bool
-exceeds_limits f = numbers_exceed f || lists_exceed f || totals_exceed f.reactors || parts_exceed f || timers_exceed f

@@ -6,7 +6,8 @@ use Rattle.warp_prog.specs.File.{File}
 use Rattle.warp_prog.specs.Shape.{file_of}
 use Rattle.warp_prog.specs.Reading.{longest_file, json_of}
 use Rattle.warp_prog.specs.Refusal.{number_of}
-use Rattle.warp_prog.specs.Limits.{first_version, second_version, last_version, exceeds_limits}
+use Rattle.warp_prog.specs.Exceeds.{exceeds_limits}
+use Rattle.warp_prog.specs.Version.{first_version, second_version, third_version, last_version}
 use Rattle.warp_prog.specs.Names.{names_unknown}
 use Rattle.warp_prog.specs.Twice.{names_twice}
 use Rattle.warp_prog.specs.Backward.{leads_back}
@@ -75,5 +76,6 @@ IsRefused bytes Limit = (longest_file < length bytes) ⊎ IsFaulty bytes (number
 IsRefused bytes Memory = length bytes ≤ longest_file
 IsRefused bytes Backward = IsFaultyFile bytes first_version (number_of Backward)
 IsRefused bytes Causality =
-    IsFaultyFile bytes second_version (number_of Causality) ⊎ IsFaultyFile bytes last_version (number_of Causality)
+    IsFaultyFile bytes second_version (number_of Causality)
+    ⊎ (IsFaultyFile bytes third_version (number_of Causality) ⊎ IsFaultyFile bytes last_version (number_of Causality))
 IsRefused bytes e = IsFaulty bytes (number_of e)

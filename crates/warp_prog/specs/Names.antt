@@ -1,10 +1,11 @@
 -- A file in which a name stands for nothing of the kind that its place asks.
 -- Where things share a name, one of a kind that is asked is enough.
-use Rattle.std.specs.Prelude.{Bool, not, ◌&&◌, ◌||◌, List, bytes_eq}
+use Rattle.std.specs.Prelude.{Bool, false, not, ◌&&◌, ◌||◌, List, Option, Some, None, bytes_eq}
 use Rattle.std.specs.List.{list_any}
 use Rattle.warp_prog.specs.File.{Word, File, ReactorPart, ReactionPart}
-use Rattle.warp_prog.specs.Uses.{Use, Reads, Asks, Sets, Puts, Schedules, body_uses, is_among, variable_names, action_names, carries_value, is_trigger}
+use Rattle.warp_prog.specs.Uses.{Use, Reads, Asks, Sets, Puts, Schedules, Indexes, body_uses, is_among, variable_names, array_names, action_names, timer_names, carries_value, is_trigger}
 use Rattle.warp_prog.specs.declared.file.PortName.{PortName}
+use Rattle.warp_prog.specs.declared.file.CalledPart.{CalledPart}
 use Rattle.warp_prog.specs.declared.file.LinkPart.{LinkPart}
 use Rattle.warp_prog.specs.declared.file.InputPart.{InputPart}
 
@@ -15,10 +16,31 @@ is_known r (Asks name) = is_trigger r name
 is_known r (Sets name) = is_among (variable_names r) name
 is_known r (Puts name) = is_among r.outputs name
 is_known r (Schedules name) = is_among (action_names r) name
+is_known r (Indexes name) = is_among (array_names r) name
 
 -- a name of what a reaction can write: an output or an action
 abbrev pub is_written : ReactorPart → Word → Bool
 is_written r name = is_among r.outputs name || is_among (action_names r) name
+
+-- a name of a thing in a reactor
+abbrev pub is_thing : ReactorPart → Word → Bool
+is_thing r name =
+    is_among (variable_names r) name || is_among (array_names r) name || is_written r name || is_among r.inputs name
+    || is_among (timer_names r) name
+
+-- a name that is there and names no thing in the reactor
+abbrev pub is_unknown_thing : ReactorPart → Option Word → Bool
+is_unknown_thing r None = false
+is_unknown_thing r (Some name) = not (is_thing r name)
+
+-- a text for people of what is no thing in the reactor; one of the reactor itself is none
+abbrev pub called_unknown : ReactorPart → CalledPart → Bool
+called_unknown r c = is_unknown_thing r c.name
+
+-- a reactor that calls what is no thing in it, or hides what is no variable of it
+abbrev pub texts_unknown : ReactorPart → Bool
+texts_unknown r =
+    list_any (called_unknown r) r.called || list_any (λ name. not (is_among (variable_names r) name)) r.hidden
 
 -- a reaction that is on or reads what is no trigger, writes what cannot be written, or whose body uses what is unknown
 abbrev pub reaction_unknown : ReactorPart → ReactionPart → Bool
@@ -44,6 +66,7 @@ link_unknown rs l = not (is_output rs l.source && is_input rs l.target)
 abbrev pub names_unknown : File → Bool
 names_unknown f =
     list_any (λ (r : ReactorPart). list_any (reaction_unknown r) r.reactions) f.reactors
+    || list_any texts_unknown f.reactors
     || list_any (link_unknown f.reactors) f.links
     || list_any (λ (i : InputPart). not (is_input f.reactors i.port)) f.inputs
     || list_any (λ p. not (is_output f.reactors p)) f.outputs

@@ -1,10 +1,10 @@
 -- The program that a file stands for: its parts in file order, with numbers in the place of names.
 -- A name's number counts what stands before it in the file: all of its kind in the reactors before, and in its own.
-use Rattle.std.specs.Prelude.{ℕ, pos, Bool, ◌+◌, unsigned_abs, true, false, List, [], ◌∷◌, ◌++◌, length, map, option_map, bytes_eq, if◌then◌else◌}
+use Rattle.std.specs.Prelude.{ℕ, ℤ, pos, Bool, not, ◌+◌, ◌-◌, unsigned_abs, true, false, replicate, List, [], ◌∷◌, ◌++◌, length, map, option_map, bytes_eq, if◌then◌else◌}
 use Rattle.std.specs.List.{position_or_len}
 use Rattle.std.specs.Ordering.{int_eq}
-use Rattle.warp_body.specs.Term.{Term, Constant, VariableAt, ValueAt, PresentAt, OfOne, OfTwo, Choice}
-use Rattle.warp_body.specs.Effect.{Statement, SetVariable, PutOutput, ScheduleAction, Choose, Body, Done, Then}
+use Rattle.warp_body.specs.Term.{Term, Constant, VariableAt, ValueAt, PresentAt, OfOne, OfTwo, Choice, ProductOver, CellAt, TimeNow, MicrostepNow}
+use Rattle.warp_body.specs.Effect.{Statement, SetVariable, PutOutput, ScheduleAction, Choose, SetCell, Repeat, Body, Done, Then}
 use Rattle.warp_body.specs.declared.place.Target.{Target}
 use Rattle.warp_body.specs.declared.place.Target.TheVariants as to
 use Rattle.warp_step.specs.Program.{Rule, Program}
@@ -16,8 +16,11 @@ use Rattle.warp_step.specs.declared.parts.Action.{Action}
 use Rattle.warp_step.specs.declared.parts.Timer.{Timer}
 use Rattle.warp_step.specs.declared.parts.Link.{Link}
 use Rattle.warp_step.specs.declared.parts.ProgramInput.{ProgramInput}
-use Rattle.warp_prog.specs.File.{Word, File, ReactorPart, ReactionPart, NamedTerm, Literal, Named, PresentNamed, OneNamed, TwoNamed, ChoiceNamed, NamedStatement, SetNamed, PutNamed, ScheduleNamed, ChooseNamed, NamedBody, NamedDone, NamedThen}
-use Rattle.warp_prog.specs.Limits.{first_version, file_form}
+use Rattle.warp_prog.specs.File.{Word, File, ReactorPart, ReactionPart, ArrayPart, StartPart, OfAll, OfEach}
+use Rattle.warp_prog.specs.File.{NamedTerm, Literal, Named, PresentNamed, OneNamed, TwoNamed, ChoiceNamed, ProductNamed, CellNamed, TimeNamed, MicrostepNamed}
+use Rattle.warp_prog.specs.File.{NamedStatement, SetNamed, PutNamed, ScheduleNamed, ChooseNamed, SetCellNamed, RepeatNamed, NamedBody, NamedDone, NamedThen}
+use Rattle.warp_prog.specs.Limits.{cells_of, file_form, total}
+use Rattle.warp_prog.specs.Version.{first_version}
 use Rattle.warp_prog.specs.Order.{loader_order}
 use Rattle.warp_prog.specs.Uses.{is_among, variable_names, action_names, timer_names}
 use Rattle.warp_prog.specs.declared.file.PortName.{PortName}
@@ -28,15 +31,20 @@ use Rattle.warp_prog.specs.declared.file.LinkPart.{LinkPart}
 use Rattle.warp_prog.specs.declared.file.InputPart.{InputPart}
 use Rattle.warp_prog.specs.declared.scope.Before.{Before}
 
--- nothing stands before the first reactor
-abbrev pub nothing_before : Before
-nothing_before = record { reactors = 0; variables = 0; ports = 0; actions = 0; timers = 0 }
+-- nothing stands before the first reactor; cells are numbered behind the variables of all reactors, which are so many
+abbrev pub nothing_before : ℕ → Before
+nothing_before variables = record { reactors = 0; variables = 0; cells = variables; ports = 0; actions = 0; timers = 0 }
+
+-- how many variables reactors have together
+abbrev pub variables_in : List ReactorPart → ℕ
+variables_in rs = total (λ r. length r.variables) rs
 
 -- what stands before the reactor after this one
 abbrev pub past : Before → ReactorPart → Before
 past b r = record {
   reactors = b.reactors + 1;
   variables = b.variables + length r.variables;
+  cells = b.cells + cells_of r.arrays;
   ports = b.ports + (length r.inputs + length r.outputs);
   actions = b.actions + length r.actions;
   timers = b.timers + length r.timers;
@@ -49,6 +57,22 @@ place_among names name = position_or_len (bytes_eq name) names
 -- the number of a variable of a reactor, by its name; of an input, an output, an action and a timer
 abbrev pub variable_number : Before → ReactorPart → Word → ℕ
 variable_number b r name = b.variables + place_among (variable_names r) name
+
+-- the number of the first cell of an array of a reactor, by its name, where its first array begins with this number; and how many
+-- cells it has, 0 where there is no such array
+abbrev pub first_cell_from : ℕ → List ArrayPart → Word → ℕ
+first_cell_from n [] name = n
+first_cell_from n (a ∷ rest) name = if bytes_eq name a.name then n else first_cell_from (n + unsigned_abs a.count) rest name
+
+abbrev pub first_cell : Before → ReactorPart → Word → ℕ
+first_cell b r name = first_cell_from b.cells r.arrays name
+
+abbrev pub cell_count_in : List ArrayPart → Word → ℕ
+cell_count_in [] name = 0
+cell_count_in (a ∷ rest) name = if bytes_eq name a.name then unsigned_abs a.count else cell_count_in rest name
+
+abbrev pub cell_count : ReactorPart → Word → ℕ
+cell_count r name = cell_count_in r.arrays name
 
 abbrev pub input_number : Before → ReactorPart → Word → ℕ
 input_number b r name = b.ports + place_among r.inputs name
@@ -84,6 +108,10 @@ numbered_term b r (PresentNamed name) = PresentAt (readable b r name)
 numbered_term b r (OneNamed op e) = OfOne op (numbered_term b r e)
 numbered_term b r (TwoNamed op e f) = OfTwo op (numbered_term b r e) (numbered_term b r f)
 numbered_term b r (ChoiceNamed c e f) = Choice (numbered_term b r c) (numbered_term b r e) (numbered_term b r f)
+numbered_term b r (ProductNamed c e f) = ProductOver (numbered_term b r c) (numbered_term b r e) (numbered_term b r f)
+numbered_term b r (CellNamed name index) = CellAt (first_cell b r name) (cell_count r name) (numbered_term b r index)
+numbered_term b r TimeNamed = TimeNow
+numbered_term b r MicrostepNamed = MicrostepNow
 
 abbrev mutual
   -- a statement
@@ -94,6 +122,9 @@ abbrev mutual
       ScheduleAction (action_number b r name) (unsigned_abs delay) (numbered_term b r e)
   numbered_statement b r (ChooseNamed e first second) =
       Choose (numbered_term b r e) (numbered_body b r first) (numbered_body b r second)
+  numbered_statement b r (SetCellNamed name index e) =
+      SetCell (first_cell b r name) (cell_count r name) (numbered_term b r index) (numbered_term b r e)
+  numbered_statement b r (RepeatNamed most e body) = Repeat (unsigned_abs most) (numbered_term b r e) (numbered_body b r body)
 
   -- a list of statements
   pub numbered_body : Before → ReactorPart → NamedBody → Body
@@ -119,9 +150,26 @@ numbered_reaction b r n = record {
   body = numbered_body b r n.body;
 }
 
--- what stands in one reactor: its variables, its ports (inputs, then outputs), its actions, its timers, its reactions
+-- what stands in one reactor: its variables, the cells of its arrays, its ports (inputs, then outputs), its actions, its timers, its
+-- reactions. Of its variables all are told but those that it hides, of its cells none.
 abbrev pub its_variables : Before → ReactorPart → List Variable
-its_variables b r = map (λ (v : VariablePart). record { reactor = b.reactors; start = v.start }) r.variables
+its_variables b r =
+    map (λ (v : VariablePart). record { reactor = b.reactors; is_told = not (is_among r.hidden v.name); start = v.start }) r.variables
+
+abbrev pub cell_with : Before → ℤ → Variable
+cell_with b start = record { reactor = b.reactors; is_told = false; start = start }
+
+-- with what so many cells start
+abbrev pub starts_with : ℕ → StartPart → List ℤ
+starts_with count (OfAll n) = replicate count n
+starts_with count (OfEach ns) = ns ++ replicate (count - length ns) (pos 0)
+
+abbrev pub cells_in : Before → List ArrayPart → List Variable
+cells_in b [] = []
+cells_in b (a ∷ rest) = map (cell_with b) (starts_with (unsigned_abs a.count) a.start) ++ cells_in b rest
+
+abbrev pub its_cells : Before → ReactorPart → List Variable
+its_cells b r = cells_in b r.arrays
 
 abbrev pub its_ports : Before → ReactorPart → List Port
 its_ports b r =
@@ -152,10 +200,10 @@ port_number number b (r ∷ rs) p =
 
 -- the number of an output, and of an input, of a file
 abbrev pub source_number : List ReactorPart → PortName → ℕ
-source_number rs p = port_number output_number nothing_before rs p
+source_number rs p = port_number output_number (nothing_before 0) rs p
 
 abbrev pub target_number : List ReactorPart → PortName → ℕ
-target_number rs p = port_number input_number nothing_before rs p
+target_number rs p = port_number input_number (nothing_before 0) rs p
 
 -- a link, and a program input
 abbrev pub numbered_link : List ReactorPart → LinkPart → Link
@@ -168,18 +216,22 @@ numbered_link rs l = record {
 abbrev pub numbered_input : List ReactorPart → InputPart → ProgramInput
 numbered_input rs i = record { origin = unsigned_abs i.origin; port = target_number rs i.port }
 
--- the program of a file, without an order of its reactions
+-- what stands before the first reactor of a file
+abbrev pub file_front : File → Before
+file_front f = nothing_before (variables_in f.reactors)
+
+-- the program of a file, without an order of its reactions: the cells of arrays stand behind all variables
 abbrev pub unordered : File → Program
 unordered f = record {
   form = file_form f;
   stop = unsigned_abs f.stop;
   origins = unsigned_abs f.origins;
   reactors = length f.reactors;
-  variables = in_each its_variables nothing_before f.reactors;
-  ports = in_each its_ports nothing_before f.reactors;
-  actions = in_each its_actions nothing_before f.reactors;
-  timers = in_each its_timers nothing_before f.reactors;
-  reactions = in_each its_reactions nothing_before f.reactors;
+  variables = in_each its_variables (file_front f) f.reactors ++ in_each its_cells (file_front f) f.reactors;
+  ports = in_each its_ports (file_front f) f.reactors;
+  actions = in_each its_actions (file_front f) f.reactors;
+  timers = in_each its_timers (file_front f) f.reactors;
+  reactions = in_each its_reactions (file_front f) f.reactors;
   order = [];
   links = map (numbered_link f.reactors) f.links;
   inputs = map (numbered_input f.reactors) f.inputs;

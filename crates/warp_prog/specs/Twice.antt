@@ -1,9 +1,10 @@
 -- A file in which something stands twice that may stand once.
-use Rattle.std.specs.Prelude.{ℕ, ◌+◌, nat_lt, Bool, ◌&&◌, ◌||◌, List, [], ◌∷◌, ◌++◌, map, bytes_eq, if◌then◌else◌}
+use Rattle.std.specs.Prelude.{ℕ, ◌+◌, nat_lt, Bool, ◌&&◌, ◌||◌, List, [], ◌∷◌, ◌++◌, map, bytes_eq, unwrap_or, if◌then◌else◌}
 use Rattle.std.specs.List.{list_any}
 use Rattle.warp_prog.specs.File.{Word, File, ReactorPart}
-use Rattle.warp_prog.specs.Uses.{startup, variable_names, action_names, timer_names}
+use Rattle.warp_prog.specs.Uses.{startup, variable_names, array_names, action_names, timer_names}
 use Rattle.warp_prog.specs.declared.file.PortName.{PortName}
+use Rattle.warp_prog.specs.declared.file.CalledPart.{CalledPart}
 use Rattle.warp_prog.specs.declared.file.LinkPart.{LinkPart}
 use Rattle.warp_prog.specs.declared.file.InputPart.{InputPart}
 
@@ -26,7 +27,15 @@ reactor_names rs = map (λ (r : ReactorPart). r.name) rs
 
 -- the names of a reactor, of all kinds, and `startup`
 unfoldable pub all_names : ReactorPart → List Word
-all_names r = startup ∷ (variable_names r ++ (r.inputs ++ (r.outputs ++ (action_names r ++ timer_names r))))
+all_names r = startup ∷ (variable_names r ++ (array_names r ++ (r.inputs ++ (r.outputs ++ (action_names r ++ timer_names r)))))
+
+-- the names of what people call otherwise, the empty name for the reactor itself
+abbrev pub called_names : ReactorPart → List Word
+called_names r = map (λ (c : CalledPart). unwrap_or c.name []) r.called
+
+-- a reactor in which a thing is called twice, or a variable hidden twice
+abbrev pub texts_twice : ReactorPart → Bool
+texts_twice r = repeats bytes_eq (called_names r) || repeats bytes_eq r.hidden
 
 -- whether two references are to the same port
 abbrev pub same_port : PortName → PortName → Bool
@@ -36,10 +45,12 @@ same_port p q = bytes_eq p.reactor q.reactor && bytes_eq p.port q.port
 abbrev pub targets : List LinkPart → List InputPart → List PortName
 targets ls is = map (λ (l : LinkPart). l.target) ls ++ map (λ (i : InputPart). i.port) is
 
--- a file with a reactor's name twice, a name twice in a reactor, two sources of an input, or an output listed twice
+-- a file with a reactor's name twice, a name twice in a reactor, a thing called or hidden twice, two sources of an input, or an
+-- output listed twice
 abbrev pub names_twice : File → Bool
 names_twice f =
     repeats bytes_eq (reactor_names f.reactors)
     || list_any (λ (r : ReactorPart). repeats bytes_eq (all_names r)) f.reactors
+    || list_any texts_twice f.reactors
     || repeats same_port (targets f.links f.inputs)
     || repeats same_port f.outputs

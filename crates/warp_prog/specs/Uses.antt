@@ -1,18 +1,22 @@
 -- What a body does with names, and what a name stands for in a reactor.
 use Rattle.std.specs.Prelude.{Bool, ◌||◌, List, [], ◌∷◌, ◌++◌, map, bytes_eq, codes}
 use Rattle.std.specs.List.{list_any}
-use Rattle.warp_prog.specs.File.{Word, ReactorPart, NamedTerm, Literal, Named, PresentNamed, OneNamed, TwoNamed, ChoiceNamed, NamedStatement, SetNamed, PutNamed, ScheduleNamed, ChooseNamed, NamedBody, NamedDone, NamedThen}
+use Rattle.warp_prog.specs.File.{Word, ReactorPart, ArrayPart}
+use Rattle.warp_prog.specs.File.{NamedTerm, Literal, Named, PresentNamed, OneNamed, TwoNamed, ChoiceNamed, ProductNamed, CellNamed, TimeNamed, MicrostepNamed}
+use Rattle.warp_prog.specs.File.{NamedStatement, SetNamed, PutNamed, ScheduleNamed, ChooseNamed, SetCellNamed, RepeatNamed, NamedBody, NamedDone, NamedThen}
 use Rattle.warp_prog.specs.declared.file.VariablePart.{VariablePart}
 use Rattle.warp_prog.specs.declared.file.ActionPart.{ActionPart}
 use Rattle.warp_prog.specs.declared.file.TimerPart.{TimerPart}
 
--- what a body does with a name: it reads its value, asks whether it is present, sets it, puts it or schedules it
+-- what a body does with a name: it reads its value, asks whether it is present, sets it, puts it or schedules it, or reads or sets a
+-- cell of it
 pub data Use : Type 0 where
   Reads : Word → Use
   Asks : Word → Use
   Sets : Word → Use
   Puts : Word → Use
   Schedules : Word → Use
+  Indexes : Word → Use
 
 -- the uses in an expression
 abbrev pub term_uses : NamedTerm → List Use
@@ -22,6 +26,10 @@ term_uses (PresentNamed name) = Asks name ∷ []
 term_uses (OneNamed op a) = term_uses a
 term_uses (TwoNamed op a b) = term_uses a ++ term_uses b
 term_uses (ChoiceNamed c a b) = term_uses c ++ (term_uses a ++ term_uses b)
+term_uses (ProductNamed a b c) = term_uses a ++ (term_uses b ++ term_uses c)
+term_uses (CellNamed name index) = Indexes name ∷ term_uses index
+term_uses TimeNamed = []
+term_uses MicrostepNamed = []
 
 abbrev mutual
   -- the uses in a statement, and in all inside it
@@ -30,6 +38,8 @@ abbrev mutual
   statement_uses (PutNamed name e) = Puts name ∷ term_uses e
   statement_uses (ScheduleNamed name delay e) = Schedules name ∷ term_uses e
   statement_uses (ChooseNamed e first second) = term_uses e ++ (body_uses first ++ body_uses second)
+  statement_uses (SetCellNamed name index e) = Indexes name ∷ (term_uses index ++ term_uses e)
+  statement_uses (RepeatNamed most e body) = term_uses e ++ body_uses body
 
   -- the uses in a list of statements
   pub body_uses : NamedBody → List Use
@@ -44,9 +54,12 @@ startup = codes "startup"
 abbrev pub is_among : List Word → Word → Bool
 is_among names name = list_any (bytes_eq name) names
 
--- the names of a reactor's variables, actions and timers
+-- the names of a reactor's variables, arrays, actions and timers
 abbrev pub variable_names : ReactorPart → List Word
 variable_names r = map (λ (v : VariablePart). v.name) r.variables
+
+abbrev pub array_names : ReactorPart → List Word
+array_names r = map (λ (a : ArrayPart). a.name) r.arrays
 
 abbrev pub action_names : ReactorPart → List Word
 action_names r = map (λ (a : ActionPart). a.name) r.actions

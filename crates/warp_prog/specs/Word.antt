@@ -1,5 +1,5 @@
 -- Names and references to ports, as texts.
-use Rattle.std.specs.Prelude.{ℕ, ℤ, Bool, true, false, ◌&&◌, ◌||◌, ◌==◌, nat_le, List, [], ◌∷◌, length, Option, Some, None, if◌then◌else◌}
+use Rattle.std.specs.Prelude.{ℕ, ℤ, Bool, true, false, not, ◌&&◌, ◌||◌, ◌==◌, nat_le, List, [], ◌∷◌, length, Option, Some, None, option_map, if◌then◌else◌}
 use Rattle.serde_json.specs.Data.{Data}
 use Rattle.serde_json.specs.Find.{as_str, as_number, as_i64}
 use Rattle.std.specs.List.{before_first, after_first}
@@ -43,6 +43,35 @@ port_of s = do
   reactor ← name_of (before_first (λ b. b == 46) s)
   port ← name_of (after_first (λ b. b == 46) s)
   Some (record { reactor = reactor; port = port })
+
+-- how many bytes a text for people has at most
+abbrev pub longest_text : ℕ
+longest_text = 120
+
+-- a byte of ASCII that can be printed, and that JSON writes as it is: no quotation mark (34) and no backslash (92)
+abbrev pub is_printed_byte : ℕ → Bool
+is_printed_byte b = (nat_le 32 b && nat_le b 126) && (not (b == 34) && not (b == 92))
+
+-- all of these are
+abbrev pub are_printed_bytes : List ℕ → Bool
+are_printed_bytes [] = true
+are_printed_bytes (b ∷ bs) = is_printed_byte b && are_printed_bytes bs
+
+-- a text for people: 1 to 120 such bytes
+abbrev pub is_printed : List ℕ → Bool
+is_printed s = not (length s == 0) && nat_le (length s) longest_text && are_printed_bytes s
+
+-- the text for people that a text is, and that a value is
+abbrev pub printed_of : List ℕ → Option Word
+printed_of s = if is_printed s then Some s else None
+
+abbrev pub printed_at : Data → Option Word
+printed_at d = as_str d >>= printed_of
+
+-- the name that a text is where none may stand, which is the empty text
+abbrev pub name_or_none : List ℕ → Option (Option Word)
+name_or_none [] = Some None
+name_or_none s = option_map Some (name_of s)
 
 -- the name that a value is
 abbrev pub name_at : Data → Option Word

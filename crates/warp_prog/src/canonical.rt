@@ -3,7 +3,8 @@ ghost use Rattle.std.specs.Prelude.{◌≡◌, ◌++◌, IfOk, OnOk, string_byte
 ghost use Rattle.std.specs.Fmt.{signed_decimal};
 ghost use Rattle.warp_prog.specs.Canonical.{canonical_of, fingerprint_of, head_text, quoted, reactor_front};
 ghost use Rattle.warp_prog.specs.Canonical.{reactor_rest, reactor_text};
-ghost use Rattle.warp_prog.specs.View.{file_tree, reactor_tree};
+ghost use Rattle.warp_prog.specs.Canonical.{begin_part, begin_text};
+ghost use Rattle.warp_prog.specs.View.{begin_tree, file_tree, reactor_tree};
 
 mod body;
 mod list;
@@ -11,9 +12,9 @@ mod number;
 mod part;
 mod reaction;
 
-use crate::file::{ProgramFile, Reactor};
+use crate::file::{Beginning, ProgramFile, Reactor};
 use crate::name::Name;
-pub(crate) use list::{Spell, add_comma, spell_list, spell_quoted};
+pub(crate) use list::{Spell, add_comma, spell_list, spell_quoted, spell_unless_empty};
 use number::spell_keyed;
 use sha2::{Digest, Sha256};
 use std::alloc::{AllocError, Global};
@@ -47,8 +48,46 @@ fn spell_file(text: &mut String, file: &ProgramFile) -> Result<(), AllocError>
     spell_list(text, ",\"links\":", &file.links)?;
     spell_list(text, ",\"inputs\":", &file.inputs)?;
     spell_list(text, ",\"outputs\":", &file.outputs)?;
+    spell_begin(text, file)?;
     text.push_str("}")?;
     Ok(())
+}
+
+/// Adds where a file begins, with its key, if it goes on from another one.
+fn spell_begin(text: &mut String, file: &ProgramFile) -> Result<(), AllocError>
+    ensures { OnOk result (string_bytes text.new ≡ string_bytes text.old ++ begin_part (file_tree file.now).begin) }
+{
+    match &file.begin {
+        None => Ok(()),
+        Some(begin) => spell_beginning(text, begin),
+    }
+}
+
+/// Adds the beginning of a file with its key.
+fn spell_beginning(text: &mut String, begin: &Beginning) -> Result<(), AllocError>
+    ensures { OnOk result (string_bytes text.new ≡ string_bytes text.old ++ begin_text (begin_tree begin.now)) }
+{
+    spell_list(text, ",\"begin\":{\"pending\":", &begin.pending)?;
+    spell_lost(text, ",\"lost\":", begin)?;
+    spell_since(text, ",\"since\":", begin)?;
+    text.push_str("}")?;
+    Ok(())
+}
+
+/// Adds what a beginning has lost behind this key.
+fn spell_lost(text: &mut String, key: &str, begin: &Beginning) -> Result<(), AllocError>
+    ensures { OnOk result (string_bytes text.new
+        ≡ string_bytes text.old ++ (key.now ++ signed_decimal begin.now.lost)) }
+{
+    spell_keyed(text, key, begin.lost)
+}
+
+/// Adds since when a beginning stands behind this key.
+fn spell_since(text: &mut String, key: &str, begin: &Beginning) -> Result<(), AllocError>
+    ensures { OnOk result (string_bytes text.new
+        ≡ string_bytes text.old ++ (key.now ++ signed_decimal begin.now.since)) }
+{
+    spell_keyed(text, key, begin.since)
 }
 
 /// Adds the numbers of a file with their keys.
@@ -107,19 +146,21 @@ fn spell_reactor(text: &mut String, reactor: &Reactor) -> Result<(), AllocError>
     spell_rest(text, reactor)
 }
 
-/// Adds the name, the variables and the ports of a reactor.
+/// Adds the name, the variables, the arrays, if there are any, and the ports of a reactor.
 fn spell_front(text: &mut String, reactor: &Reactor) -> Result<(), AllocError>
     ensures { OnOk result
         (string_bytes text.new ≡ string_bytes text.old ++ reactor_front (reactor_tree reactor.now)) }
 {
     spell_named(text, "{\"name\":", &reactor.name)?;
     spell_list(text, ",\"vars\":", &reactor.variables)?;
+    spell_unless_empty(text, ",\"arrays\":", &reactor.arrays)?;
     spell_list(text, ",\"inputs\":", &reactor.inputs)?;
     spell_list(text, ",\"outputs\":", &reactor.outputs)?;
     Ok(())
 }
 
-/// Adds the actions, the timers and the reactions of a reactor, and its end.
+/// Adds the actions, the timers and the reactions of a reactor, how people call what is in it and what is hidden, if
+/// anything is, and its end.
 fn spell_rest(text: &mut String, reactor: &Reactor) -> Result<(), AllocError>
     ensures { OnOk result
         (string_bytes text.new ≡ string_bytes text.old ++ reactor_rest (reactor_tree reactor.now)) }
@@ -127,6 +168,8 @@ fn spell_rest(text: &mut String, reactor: &Reactor) -> Result<(), AllocError>
     spell_list(text, ",\"actions\":", &reactor.actions)?;
     spell_list(text, ",\"timers\":", &reactor.timers)?;
     spell_list(text, ",\"reactions\":", &reactor.reactions)?;
+    spell_unless_empty(text, ",\"called\":", &reactor.called)?;
+    spell_unless_empty(text, ",\"hidden\":", &reactor.hidden)?;
     text.push_str("}")?;
     Ok(())
 }

@@ -1,6 +1,7 @@
 //! A program file as a tree: all that stands in it, with names, and before any limit is looked at.
 
 use crate::name::Name;
+use crate::printed::Printed;
 use warp_body::{BinaryOperator, UnaryOperator};
 
 /// A reference to a port, `REACTOR.PORT` in the file.
@@ -19,6 +20,59 @@ pub struct VariablePart {
     pub name: Name,
     /// The value that it starts with.
     pub start: i64,
+}
+
+/// With what the cells of an array start.
+#[derive(Drop)]
+pub enum ArrayStart {
+    /// All with this number.
+    All(i64),
+    /// The first ones with these numbers, the others with 0.
+    Each(Vec<i64>),
+}
+
+/// An array.
+#[derive(Drop)]
+pub struct Array {
+    /// Its name.
+    pub name: Name,
+    /// How many cells it has, as the file has it.
+    pub count: i64,
+    /// With what they start.
+    pub start: ArrayStart,
+}
+
+/// How people call a thing of a reactor, or the reactor itself.
+#[derive(Drop)]
+pub struct CalledPart {
+    /// The name of the thing; `None`: the reactor itself.
+    pub name: Option<Name>,
+    /// What it is called.
+    pub text: Printed,
+}
+
+/// What is pending where a program begins behind another one.
+#[derive(Drop)]
+pub struct PendingPart {
+    /// The time of its tag, as the file has it.
+    pub time: i64,
+    /// The microstep of its tag, as the file has it.
+    pub microstep: i64,
+    /// What is pending: an action, a timer or an input, by its reactor and its name.
+    pub target: PortName,
+    /// Its value.
+    pub value: i64,
+}
+
+/// Where a program begins that goes on from another one.
+#[derive(Drop)]
+pub struct Beginning {
+    /// What is pending.
+    pub pending: Vec<PendingPart>,
+    /// How many entries were lost before, as the file has it.
+    pub lost: i64,
+    /// The sum of the times at which the programs before it ended, as the file has it.
+    pub since: i64,
 }
 
 /// An action.
@@ -76,6 +130,14 @@ pub enum Expression {
     Binary(BinaryOperator, Box<Expression>, Box<Expression>),
     /// The second if the first is not 0, else the third.
     If(Box<Expression>, Box<Expression>, Box<Expression>),
+    /// The product of the first two over the third.
+    MultiplyDivide(Box<Expression>, Box<Expression>, Box<Expression>),
+    /// The cell of the array of this name with this number.
+    At(Name, Box<Expression>),
+    /// The time of the tag that is executed.
+    Time,
+    /// Its microstep.
+    Microstep,
 }
 
 /// A statement.
@@ -89,6 +151,10 @@ pub enum Statement {
     Schedule(Name, i64, Expression),
     /// The first list if the expression is not 0, else the second.
     If(Expression, Vec<Statement>, Vec<Statement>),
+    /// The cell of the array of this name, with the number that the first expression is, has the value of the second.
+    SetAt(Name, Expression, Expression),
+    /// The list again and again while the expression is not 0, at most so many times.
+    While(i64, Expression, Vec<Statement>),
 }
 
 /// A reaction.
@@ -111,6 +177,8 @@ pub struct Reactor {
     pub name: Name,
     /// Its variables.
     pub variables: Vec<VariablePart>,
+    /// Its arrays.
+    pub arrays: Vec<Array>,
     /// Its inputs.
     pub inputs: Vec<Name>,
     /// Its outputs.
@@ -121,6 +189,10 @@ pub struct Reactor {
     pub timers: Vec<TimerPart>,
     /// Its reactions.
     pub reactions: Vec<Reaction>,
+    /// How people call what is in it.
+    pub called: Vec<CalledPart>,
+    /// Those of its variables that are told to nobody who does not ask for them.
+    pub hidden: Vec<Name>,
 }
 
 /// A program file. Its numbers are as the file has them.
@@ -132,6 +204,8 @@ pub struct ProgramFile {
     pub stop: i64,
     /// How many origins there are.
     pub origins: i64,
+    /// Where it begins, if it goes on from another program.
+    pub begin: Option<Beginning>,
     /// The reactors.
     pub reactors: Vec<Reactor>,
     /// The links.

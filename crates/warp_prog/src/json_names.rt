@@ -2,18 +2,19 @@
 ghost use Rattle.std.specs.Prelude.{◌≡◌, ◌++◌, IfOk, OnOk, decimal, map, string_bytes};
 ghost use Rattle.warp_prog.specs.Canonical.{listed, separated};
 ghost use Rattle.warp_prog.specs.Explain.{origin_at};
-ghost use Rattle.warp_prog.specs.NamesLine.{form_number, names_text, numbers_part, owned_text, owned_texts};
+ghost use Rattle.warp_prog.specs.NamesLine.{cells_of_form, cells_text, form_number, names_text, numbers_part, owned_text, owned_texts};
 
 use crate::canonical::{Spell, add_comma, spell_list, spell_quoted};
 use crate::explain::{Labels, origin_at};
 use itoa::Buffer;
 use std::alloc::{AllocError, Global};
-use warp_step::{Program, ProgramInput};
+use warp_step::{ArrayLabel, Program, ProgramInput};
 use warp_tag::Form;
 
 /// What the numbers of a program with these labels stand for, as one line of JSON without its line feed: its form, how
 /// many origins it has and its stop; and of its variables, inputs and outputs the name of each at the place of its
-/// number, an input's behind the number of its origin.
+/// number, an input's behind the number of its origin. In the fourth form also its arrays, each with the number of its
+/// first cell and how many it has, and the numbers of its hidden variables.
 ///
 /// # Errors
 ///
@@ -32,10 +33,55 @@ fn add_names(text: &mut String, program: &Program, labels: &Labels) -> Result<()
 {
     add_head(text, program)?;
     spell_list(text, ",\"vars\":", &labels.variables)?;
+    add_cells_of_form(text, program.form(), labels)?;
     add_inputs(text, ",\"inputs\":", &labels.inputs, program.inputs())?;
     spell_list(text, ",\"outputs\":", &labels.outputs)?;
     text.push_str("}")?;
     Ok(())
+}
+
+/// Adds the arrays and the numbers of the hidden variables of a program of the fourth form; nothing of another.
+fn add_cells_of_form(text: &mut String, form: Form, labels: &Labels) -> Result<(), AllocError>
+    ensures { OnOk result (string_bytes text.new ≡ string_bytes text.old ++ cells_of_form form labels.now) }
+{
+    match form {
+        Form::One | Form::Two | Form::Three => Ok(()),
+        Form::Four => add_cells(text, labels),
+    }
+}
+
+/// Adds the arrays and the numbers of the hidden variables, with their keys.
+fn add_cells(text: &mut String, labels: &Labels) -> Result<(), AllocError>
+    ensures { OnOk result (string_bytes text.new ≡ string_bytes text.old ++ cells_text labels.now) }
+{
+    spell_list(text, ",\"arrays\":", &labels.arrays)?;
+    spell_list(text, ",\"hidden\":", &labels.hidden)?;
+    Ok(())
+}
+
+impl Spell for ArrayLabel {
+    ghost use Rattle.warp_step.specs.Labelled.{array_name};
+    ghost use Rattle.warp_prog.specs.NamesLine.{array_text};
+
+    ghost spelled = { λ a. array_text (array_name a) };
+
+    fn spell(&self, text: &mut String) -> Result<(), AllocError> {
+        text.push_str("[")?;
+        spell_quoted(text, self.label.as_str())?;
+        add_number(text, ",", u64::from(self.first))?;
+        add_number(text, ",", u64::from(self.count))?;
+        text.push_str("]")
+    }
+}
+
+impl Spell for u32 {
+    ghost use Rattle.std.specs.Prelude.{decimal};
+
+    ghost spelled = { λ n. decimal n };
+
+    fn spell(&self, text: &mut String) -> Result<(), AllocError> {
+        add_number(text, "", u64::from(*self))
+    }
 }
 
 /// Adds the numbers of a program with their keys.
@@ -55,6 +101,7 @@ fn form_number(form: Form) -> u64
         Form::One => 1,
         Form::Two => 2,
         Form::Three => 3,
+        Form::Four => 4,
     }
 }
 

@@ -2,53 +2,50 @@
 ghost use Rattle.std.specs.Prelude.{◌≡◌, ◌≤◌, ◌-◌, ℕ, pos, map, nat_lt, SomeIff};
 ghost use Rattle.std.specs.List.{list_any};
 ghost use Rattle.warp_tag.specs.Limits.{longest_period, longest_stop, most_origins};
-ghost use Rattle.warp_tag.specs.Limits.{most_variables, most_ports, most_actions, most_timers, most_reactions};
-ghost use Rattle.warp_prog.specs.Limits.{form_of_version, is_outside, period_exceeds, origin_exceeds};
-ghost use Rattle.warp_prog.specs.Limits.{first_version, last_version, lists_exceed};
+ghost use Rattle.warp_prog.specs.Limits.{file_form, form_of_version, is_outside, period_exceeds, origin_exceeds};
+ghost use Rattle.warp_prog.specs.Limits.{array_exceeds, begin_exceeds, cells_of, lists_exceed, most_arrays, most_cells};
+ghost use Rattle.warp_prog.specs.Limits.{most_scalars, starts_exceed};
+ghost use Rattle.warp_prog.specs.Version.{first_version, last_version};
 ghost use Rattle.warp_prog.specs.Limits.{total, totals_exceed, action_exceeds, timer_exceeds, link_exceeds};
-ghost use Rattle.warp_prog.specs.Limits.{reaction_exceeds, reactor_exceeds, parts_exceed, exceeds_limits};
-ghost use Rattle.warp_prog.specs.View.{file_tree, reactor_tree, reaction_tree};
-ghost use Rattle.warp_prog.specs.inner.Things.{count_of};
-ghost use Rattle.warp_prog.specs.inner.Others.{ends_exceed, others_exceed};
+ghost use Rattle.warp_prog.specs.Limits.{reaction_exceeds, reactor_exceeds, parts_exceed};
+ghost use Rattle.warp_prog.specs.Exceeds.{exceeds_limits};
+ghost use Rattle.warp_prog.specs.View.{array_tree, file_tree, reactor_tree, reaction_tree, start_tree};
+ghost use Rattle.warp_prog.specs.inner.Things.{count_of, most_of};
+ghost use Rattle.warp_prog.specs.inner.Others.{counts_exceed, ends_exceed, others_exceed};
 ghost use Rattle.warp_prog.specs.declared.file.InputPart.{InputPart};
 
 pub(crate) mod body;
 pub(crate) mod timers;
+pub(crate) mod work;
 
 use crate::explain::limits::body::note_body;
 use crate::explain::limits::note_totals;
 use crate::explain::reason::Reason;
 use crate::explain::trail::{Segment, Trail};
-use crate::file::{ActionPart, InputPart, LinkPart, ProgramFile, Reaction, Reactor, TimerPart};
+use crate::file::{
+    ActionPart, Array, ArrayStart, InputPart, LinkPart, ProgramFile, Reaction, Reactor, TimerPart,
+};
 use crate::limits::body::body_exceeds;
 use crate::limits::timers::timers_exceed;
+use crate::limits::work::work_exceeds;
 use warp_tag::Form;
 
 pub(crate) const FIRST_VERSION: i64 = 1;
 
-pub(crate) const LAST_VERSION: i64 = 3;
+/// The version whose form is the third.
+const THIRD_VERSION: i64 = 3;
 
-pub(crate) const MOST_REACTORS: usize = 64;
+pub(crate) const LAST_VERSION: i64 = 4;
 
-pub(crate) const MOST_VARIABLES: usize = 256;
-
-pub(crate) const MOST_PORTS: usize = 256;
-
-pub(crate) const MOST_ACTIONS: usize = 64;
-
-pub(crate) const MOST_TIMERS: usize = 16;
-
-pub(crate) const MOST_REACTIONS: usize = 256;
-
-pub(crate) const MOST_LINKS: usize = 256;
-
-pub(crate) const MOST_INPUTS: usize = 64;
-
-pub(crate) const MOST_OUTPUTS: usize = 64;
+/// How many cells an array may have.
+pub(crate) const LONGEST_ARRAY: i64 = 65_536;
 
 /// Things of which all reactors together have a limit.
 pub(crate) enum LimitedThings {
     Variables,
+    Arrays,
+    /// The cells of arrays.
+    Cells,
     /// Inputs and outputs together.
     Ports,
     Actions,
@@ -56,16 +53,64 @@ pub(crate) enum LimitedThings {
     Reactions,
 }
 
-/// The form of a version: that of the first is the first, that of the last the third, that of any other the second.
+/// The form of a version: that of the first is the first, that of the third the third, that of the last the fourth, that
+/// of any other the second.
 pub(crate) fn form_of_version(version: i64) -> Form
     ensures { result ≡ form_of_version version }
 {
     if version == FIRST_VERSION {
         Form::One
-    } else if version == LAST_VERSION {
+    } else if version == THIRD_VERSION {
         Form::Three
+    } else if version == LAST_VERSION {
+        Form::Four
     } else {
         Form::Two
+    }
+}
+
+/// How many variables a file of this form may have, beside the cells of arrays.
+fn most_scalars(form: Form) -> usize
+    ensures { result ≡ most_scalars form }
+{
+    match form {
+        Form::One | Form::Two | Form::Three => 256,
+        Form::Four => 1_024,
+    }
+}
+
+/// How many arrays a file of this form may have: one before version 4 has none.
+fn most_arrays(form: Form) -> usize
+    ensures { result ≡ most_arrays form }
+{
+    match form {
+        Form::One | Form::Two | Form::Three => 0,
+        Form::Four => 256,
+    }
+}
+
+/// How many cells its arrays may have together.
+fn most_cells(form: Form) -> usize
+    ensures { result ≡ most_cells form }
+{
+    match form {
+        Form::One | Form::Two | Form::Three => 0,
+        Form::Four => 65_536,
+    }
+}
+
+/// How many things of a kind all reactors of a file of this form may have together.
+pub(crate) fn most_of(kind: &LimitedThings, form: Form) -> usize
+    ensures { result ≡ most_of kind.now form }
+{
+    match kind {
+        LimitedThings::Variables => most_scalars(form),
+        LimitedThings::Arrays => most_arrays(form),
+        LimitedThings::Cells => most_cells(form),
+        LimitedThings::Ports => form.most_ports() as usize,
+        LimitedThings::Actions => form.most_actions() as usize,
+        LimitedThings::Timers => form.most_timers() as usize,
+        LimitedThings::Reactions => form.most_reactions() as usize,
     }
 }
 
@@ -90,8 +135,8 @@ fn most_origins(form: Form) -> i64
     form.most_origins() as i64
 }
 
-/// Whether a file goes past a limit: a number outside its range, too many things, a body past its own limits, or timers
-/// that are due too often. Whether its version is known is looked at last.
+/// Whether a file goes past a limit: a number outside its range, too many things, a body past its own limits, timers
+/// that are due too often, or too much work. Whether its version is known is looked at last.
 pub(crate) fn exceeds_limits(file: &ProgramFile, at: &mut Trail) -> bool
     ensures { result ≡ exceeds_limits (file_tree file.now) }
 {
@@ -113,11 +158,28 @@ fn version_exceeds(file: &ProgramFile, at: &mut Trail) -> bool
 fn others_exceed(file: &ProgramFile, at: &mut Trail) -> bool
     ensures { result ≡ others_exceed (file_tree file.now) }
 {
-    numbers_exceed(file, at)
-        || lists_exceed(file, at)
-        || any_total(&file.reactors, at)
+    counts_exceed(file, at)
         || parts_exceed(file, at)
         || timers_exceed(file, at)
+        || work_exceeds(file, at)
+}
+
+/// Whether a number of its own does, it goes on from another one, or there are too many things.
+fn counts_exceed(file: &ProgramFile, at: &mut Trail) -> bool
+    ensures { result ≡ counts_exceed (file_tree file.now) }
+{
+    numbers_exceed(file, at)
+        || begin_exceeds(file, at)
+        || lists_exceed(file, at)
+        || any_total(file, at)
+}
+
+/// Whether a file goes on from another one: none is run yet that does.
+fn begin_exceeds(file: &ProgramFile, at: &mut Trail) -> bool
+    ensures { result ≡ begin_exceeds (file_tree file.now).begin }
+{
+    let reason = Reason::Plain("a program that goes on from another one is not run yet");
+    file.begin.is_some() && at.fault_at(Segment::Key("begin"), reason)
 }
 
 fn numbers_exceed(file: &ProgramFile, at: &mut Trail) -> bool
@@ -137,33 +199,45 @@ fn numbers_exceed(file: &ProgramFile, at: &mut Trail) -> bool
 fn lists_exceed(file: &ProgramFile, at: &mut Trail) -> bool
     ensures { result ≡ lists_exceed (file_tree file.now) }
 {
-    length_exceeds(file.reactors.len(), MOST_REACTORS, "reactors", at)
-        || length_exceeds(file.links.len(), MOST_LINKS, "links", at)
-        || length_exceeds(file.inputs.len(), MOST_INPUTS, "inputs", at)
-        || length_exceeds(file.outputs.len(), MOST_OUTPUTS, "outputs", at)
+    let form = form_of_version(file.version);
+    length_exceeds(file.reactors.len(), form.most_reactors(), "reactors", at)
+        || length_exceeds(file.links.len(), form.most_links(), "links", at)
+        || length_exceeds(file.inputs.len(), form.most_inputs(), "inputs", at)
+        || length_exceeds(file.outputs.len(), form.most_outputs(), "outputs", at)
 }
 
 /// Whether a list is longer than this; it stands under this key.
-fn length_exceeds(length: usize, most: usize, key: &'static str, at: &mut Trail) -> bool
+fn length_exceeds(length: usize, most: u32, key: &'static str, at: &mut Trail) -> bool
     ensures { result ≡ nat_lt most length }
 {
+    let most = most as usize;
     length > most && at.fault_at(Segment::Key(key), Reason::Many(key, most))
 }
 
-fn any_total(reactors: &[Reactor], at: &mut Trail) -> bool
-    ensures { result ≡ totals_exceed (map reactor_tree reactors.now) }
+fn any_total(file: &ProgramFile, at: &mut Trail) -> bool
+    ensures { let f = file_tree file.now in result ≡ totals_exceed (file_form f) f.reactors }
 {
-    totals_exceed(reactors) && note_totals(reactors, at)
+    let form = form_of_version(file.version);
+    totals_exceed(&file.reactors, form) && note_totals(&file.reactors, form, at)
 }
 
-fn totals_exceed(reactors: &[Reactor]) -> bool
-    ensures { result ≡ totals_exceed (map reactor_tree reactors.now) }
+fn totals_exceed(reactors: &[Reactor], form: Form) -> bool
+    ensures { result ≡ totals_exceed form (map reactor_tree reactors.now) }
 {
-    are_more(reactors, &LimitedThings::Variables, MOST_VARIABLES)
-        || are_more(reactors, &LimitedThings::Ports, MOST_PORTS)
-        || are_more(reactors, &LimitedThings::Actions, MOST_ACTIONS)
-        || are_more(reactors, &LimitedThings::Timers, MOST_TIMERS)
-        || are_more(reactors, &LimitedThings::Reactions, MOST_REACTIONS)
+    exceeds(reactors, &LimitedThings::Variables, form)
+        || exceeds(reactors, &LimitedThings::Arrays, form)
+        || exceeds(reactors, &LimitedThings::Cells, form)
+        || exceeds(reactors, &LimitedThings::Ports, form)
+        || exceeds(reactors, &LimitedThings::Actions, form)
+        || exceeds(reactors, &LimitedThings::Timers, form)
+        || exceeds(reactors, &LimitedThings::Reactions, form)
+}
+
+/// Whether all reactors of a file of this form together have more of a kind than they may.
+fn exceeds(reactors: &[Reactor], kind: &LimitedThings, form: Form) -> bool
+    ensures { result ≡ nat_lt (most_of kind.now form) (total (count_of kind.now) (map reactor_tree reactors.now)) }
+{
+    are_more(reactors, kind, most_of(kind, form))
 }
 
 /// Whether all reactors together have more of a kind than so many.
@@ -191,6 +265,8 @@ pub(crate) fn room_after(reactor: &Reactor, kind: &LimitedThings, room: usize) -
 {
     match kind {
         LimitedThings::Variables => room.checked_sub(reactor.variables.len()),
+        LimitedThings::Arrays => room.checked_sub(reactor.arrays.len()),
+        LimitedThings::Cells => room_after_cells(&reactor.arrays, room),
         LimitedThings::Ports => room
             .checked_sub(reactor.inputs.len())?
             .checked_sub(reactor.outputs.len()),
@@ -198,6 +274,17 @@ pub(crate) fn room_after(reactor: &Reactor, kind: &LimitedThings, room: usize) -
         LimitedThings::Timers => room.checked_sub(reactor.timers.len()),
         LimitedThings::Reactions => room.checked_sub(reactor.reactions.len()),
     }
+}
+
+/// The room that is left of so much after the cells of these arrays; `None` where it is not enough.
+fn room_after_cells(arrays: &[Array], room: usize) -> Option<usize>
+    ensures { let n = cells_of (map array_tree arrays.now) in SomeIff result (n ≤ room) (room - n) }
+{
+    let mut left = room;
+    for array in arrays {
+        left = left.checked_sub(array.count.unsigned_abs() as usize)?;
+    }
+    Some(left)
 }
 
 fn parts_exceed(file: &ProgramFile, at: &mut Trail) -> bool
@@ -223,9 +310,45 @@ fn any_reactor(reactors: &[Reactor], form: Form, at: &mut Trail) -> bool
 fn reactor_exceeds(reactor: &Reactor, form: Form, at: &mut Trail) -> bool
     ensures { result ≡ reactor_exceeds form (reactor_tree reactor.now) }
 {
-    any_action(&reactor.actions, form, at)
+    any_array(&reactor.arrays, at)
+        || any_action(&reactor.actions, form, at)
         || any_timer(&reactor.timers, form, at)
         || any_reaction(&reactor.reactions, form, at)
+}
+
+fn any_array(arrays: &[Array], at: &mut Trail) -> bool
+    ensures { result ≡ list_any array_exceeds (map array_tree arrays.now) }
+{
+    for (i, array) in arrays.iter().enumerate() {
+        if array_exceeds(array, at) {
+            return at.back(Segment::Of("arrays", i));
+        }
+    }
+    false
+}
+
+/// Whether an array has too few or too many cells, or more starts than cells.
+fn array_exceeds(array: &Array, at: &mut Trail) -> bool
+    ensures { result ≡ array_exceeds (array_tree array.now) }
+{
+    range_exceeds(array.count, 1, LONGEST_ARRAY, Segment::Item(1), at)
+        || starts_exceed(array.count, &array.start, at)
+}
+
+/// Whether there are more starts than cells, of which there are so many.
+fn starts_exceed(count: i64, start: &ArrayStart, at: &mut Trail) -> bool
+    ensures { result ≡ starts_exceed count (start_tree start.now) }
+{
+    match start {
+        ArrayStart::All(_) => false,
+        ArrayStart::Each(numbers) => {
+            numbers.len() as u64 > count.unsigned_abs()
+                && at.fault_at(
+                    Segment::Item(2),
+                    Reason::Plain("there are more numbers than cells"),
+                )
+        }
+    }
 }
 
 fn any_action(actions: &[ActionPart], form: Form, at: &mut Trail) -> bool

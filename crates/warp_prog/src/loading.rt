@@ -1,7 +1,9 @@
 //! Loading a program file.
 ghost use Rattle.std.specs.Prelude.{◌≡◌, ◌<◌, ◌^◌, true, false, Ok, IfOk, IfErr, OnOk, length, string_bytes};
 ghost use Rattle.warp_step.specs.View.{program_of};
+ghost use Rattle.warp_prog.specs.Account.{IsWorked};
 ghost use Rattle.warp_prog.specs.Canonical.{IsCanonical};
+ghost use Rattle.warp_prog.specs.Exceeds.{exceeds_limits};
 ghost use Rattle.warp_prog.specs.Explain.{IsLabelled};
 ghost use Rattle.warp_prog.specs.Load.{IsFaultless, IsLoaded, IsRefused, lacks_order};
 ghost use Rattle.warp_prog.specs.Numbered.{is_first_version, numbered};
@@ -15,6 +17,7 @@ use crate::error::LoadError;
 use crate::explain::trail::Trail;
 use crate::explain::{Labels, labels_of};
 use crate::file::ProgramFile;
+use crate::limits::work::{Work, work_of};
 use crate::limits::{FIRST_VERSION, exceeds_limits};
 use crate::names::names_unknown;
 use crate::numbered::numbered;
@@ -40,8 +43,8 @@ pub struct LabelledProgram {
 /// # Errors
 ///
 /// The first fault of the file: each is looked for in the whole file before the next. More than 1,048,576 bytes are
-/// refused at once, as past a limit. `Backward` comes for files of version 1 alone, `Causality` for those of versions 2
-/// and 3. `Memory` comes only where a growth was refused.
+/// refused at once, as past a limit. `Backward` comes for files of version 1 alone, `Causality` for those of later
+/// versions. `Memory` comes only where a growth was refused.
 pub fn load(alloc: Global, bytes: &[u8]) -> Result<Program, LoadError>
     ensures ok { IfOk result (λ program. IsLoaded bytes.now program) }
     ensures err { IfErr result (λ error. IsRefused bytes.now error) }
@@ -74,6 +77,8 @@ pub struct NamedProgram {
     /// Its file written back in one way: JSON with no white space, each key there and in a fixed order. Files that differ
     /// only in white space, in the order of keys, and in keys that are not there or have an empty list, have one text.
     pub canonical: String,
+    /// How much work its reactions are.
+    pub work: Work,
 }
 
 /// Loads the program that the bytes of a file spell, with the names of its parts and its canonical text: the file is
@@ -86,11 +91,13 @@ pub fn load_named(alloc: Global, bytes: &[u8]) -> Result<NamedProgram, LoadError
     ensures program { IfOk result (λ n. IsLoaded bytes.now n.program) }
     ensures labels { IfOk result (λ n. IsLabelled bytes.now n.labels) }
     ensures canonical { IfOk result (λ n. IsCanonical bytes.now (string_bytes n.canonical)) }
+    ensures work { IfOk result (λ n. IsWorked bytes.now n.work) }
     ensures err { IfErr result (IsRefused bytes.now) }
 {
     let read = read_program(alloc, bytes)?;
     let labels = labels_of(alloc, &read.file);
-    with_names(read.program, labels, canonical(alloc, &read.file))
+    let work = work_of(&read.file);
+    with_names(read.program, labels, canonical(alloc, &read.file), work)
 }
 
 /// A program with these labels and this text, if there was memory for both.
@@ -98,9 +105,11 @@ fn with_names(
     program: Program,
     labels: Result<Labels, AllocError>,
     canonical: Result<String, AllocError>,
+    work: Work,
 ) -> Result<NamedProgram, LoadError>
     ensures program { IfOk result (λ n. n.program ≡ program) }
     ensures labels { IfOk result (λ n. labels ≡ Ok n.labels) }
+    ensures work { IfOk result (λ n. n.work ≡ work) }
     ensures canonical { IfOk result (λ n. canonical ≡ Ok n.canonical) }
     ensures err { IfErr result (λ error. error ≡ LoadError.Memory) }
 {
@@ -111,6 +120,7 @@ fn with_names(
         program,
         labels,
         canonical,
+        work,
     })
 }
 
@@ -125,6 +135,7 @@ struct ReadProgram {
 fn read_program(alloc: Global, bytes: &[u8]) -> Result<ReadProgram, LoadError>
     ensures program { IfOk result (λ read. IsLoaded bytes.now read.program) }
     ensures file { IfOk result (λ read. reading_of bytes.now ≡ Ok (file_tree read.file)) }
+    ensures limits { IfOk result (λ read. exceeds_limits (file_tree read.file) ≡ false) }
     ensures err { IfErr result (IsRefused bytes.now) }
 {
     let file = reading(alloc, bytes)?;

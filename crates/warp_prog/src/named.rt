@@ -2,7 +2,7 @@
 ghost use Rattle.std.specs.Prelude.{◌≡◌, List, ℕ, map, bytes_eq};
 ghost use Rattle.warp_prog.specs.Uses.{is_among, startup};
 
-use crate::file::{ActionPart, TimerPart, VariablePart};
+use crate::file::{ActionPart, Array, TimerPart, VariablePart};
 use crate::name::Name;
 
 /// A thing that has a name.
@@ -24,6 +24,16 @@ impl Named for Name {
 
 impl Named for VariablePart {
     ghost called = { λ v. v.name };
+
+    fn name(&self) -> &Name {
+        &self.name
+    }
+}
+
+impl Named for Array {
+    ghost use Rattle.warp_prog.specs.View.{array_tree};
+
+    ghost called = { λ a. (array_tree a).name };
 
     fn name(&self) -> &Name {
         &self.name

@@ -1,14 +1,14 @@
 //! Names that stand for nothing of the kind that their place asks.
 ghost use Rattle.std.specs.Prelude.{◌≡◌, not, map};
 ghost use Rattle.std.specs.List.{list_any};
-ghost use Rattle.warp_prog.specs.Names.{link_unknown, is_input, is_output, names_unknown};
+ghost use Rattle.warp_prog.specs.Names.{called_unknown, link_unknown, is_input, is_output, names_unknown, texts_unknown};
 ghost use Rattle.warp_prog.specs.View.{file_tree, reactor_tree, reaction_tree};
 ghost use Rattle.warp_prog.specs.inner.Rule.{fits, has_port, reaction_breaks, unknown_in_role};
 ghost use Rattle.warp_prog.specs.declared.file.InputPart.{InputPart};
 
 use crate::explain::reason::Reason;
 use crate::explain::trail::{Segment, Trail};
-use crate::file::{InputPart, LinkPart, PortName, ProgramFile, Reaction, Reactor};
+use crate::file::{CalledPart, InputPart, LinkPart, PortName, ProgramFile, Reaction, Reactor};
 use crate::name::Name;
 use crate::named::is_same;
 use crate::role::{Role, fits};
@@ -19,6 +19,7 @@ pub(crate) fn names_unknown<'f>(file: &'f ProgramFile, at: &mut Trail<'f>) -> bo
     ensures { result ≡ names_unknown (file_tree file.now) }
 {
     any_reactor(&file.reactors, false, at)
+        || any_text(&file.reactors, at)
         || any_link(&file.reactors, &file.links, at)
         || any_input(&file.reactors, &file.inputs, at)
         || any_output(&file.reactors, &file.outputs, at)
@@ -96,6 +97,54 @@ fn any_name<'f>(
         }
     }
     false
+}
+
+fn any_text<'f>(reactors: &'f [Reactor], at: &mut Trail<'f>) -> bool
+    ensures { result ≡ list_any texts_unknown (map reactor_tree reactors.now) }
+{
+    for (i, reactor) in reactors.iter().enumerate() {
+        if texts_unknown(reactor, at) {
+            return at.back(Segment::Of("reactors", i));
+        }
+    }
+    false
+}
+
+/// Whether a reactor calls what is no thing in it, or hides what is no variable of it.
+fn texts_unknown<'f>(reactor: &'f Reactor, at: &mut Trail<'f>) -> bool
+    ensures { result ≡ texts_unknown (reactor_tree reactor.now) }
+{
+    any_called(reactor, &reactor.called, at)
+        || any_name(reactor, &reactor.hidden, Role::Variable, "hidden", at)
+}
+
+fn any_called<'f>(reactor: &'f Reactor, called: &'f [CalledPart], at: &mut Trail<'f>) -> bool
+    ensures { result ≡ list_any (called_unknown (reactor_tree reactor.now)) called.now }
+{
+    for (i, part) in called.iter().enumerate() {
+        if called_unknown(reactor, part, Segment::Of("called", i), at) {
+            return true;
+        }
+    }
+    false
+}
+
+/// Whether a text for people, to which this segment leads, is of what is no thing in the reactor.
+fn called_unknown<'f>(
+    reactor: &'f Reactor,
+    part: &'f CalledPart,
+    segment: Segment,
+    at: &mut Trail<'f>,
+) -> bool
+    ensures { result ≡ called_unknown (reactor_tree reactor.now) part.now }
+{
+    match &part.name {
+        None => false,
+        Some(name) => {
+            !fits(reactor, Role::Thing, name)
+                && at.fault_at(segment, Reason::Unknown(name, Role::Thing, reactor))
+        }
+    }
 }
 
 fn any_link<'f>(reactors: &'f [Reactor], links: &'f [LinkPart], at: &mut Trail<'f>) -> bool

@@ -1,14 +1,16 @@
 //! Names and ports that stand twice where they may stand once.
-ghost use Rattle.std.specs.Prelude.{◌≡◌, ◌≤◌, ◌+◌, ◌-◌, ◌||◌, List, ℕ, map, bytes_eq, SomeIff, if◌then◌else◌};
+ghost use Rattle.std.specs.Prelude.{◌≡◌, ◌≤◌, ◌+◌, ◌-◌, ◌||◌, List, [], ℕ, map, unwrap_or, bytes_eq, SomeIff, if◌then◌else◌};
 ghost use Rattle.std.specs.List.{list_any};
 ghost use Rattle.warp_prog.specs.File.{ReactorPart};
 ghost use Rattle.warp_prog.specs.Twice.{how_often, stands_twice, repeats, reactor_names, all_names, same_port, targets};
-ghost use Rattle.warp_prog.specs.Twice.{names_twice};
-ghost use Rattle.warp_prog.specs.Uses.{startup, action_names, timer_names};
+ghost use Rattle.warp_prog.specs.Twice.{names_twice, texts_twice};
+ghost use Rattle.warp_prog.specs.Uses.{array_names, startup, action_names, timer_names};
 ghost use Rattle.warp_prog.specs.View.{file_tree, reactor_tree};
+ghost use Rattle.warp_prog.specs.declared.file.CalledPart.{CalledPart};
 ghost use Rattle.warp_prog.specs.declared.file.PortName.{PortName};
 
-use crate::file::{InputPart, LinkPart, PortName, ProgramFile, Reactor};
+use crate::file::{CalledPart, InputPart, LinkPart, PortName, ProgramFile, Reactor};
+use crate::name::Name;
 use crate::named::{Named, is_same};
 
 /// How often a name or a port may stand.
@@ -21,6 +23,7 @@ pub(crate) fn names_twice(file: &ProgramFile) -> bool
 {
     reactors_repeat(&file.reactors)
         || any_names_repeat(&file.reactors)
+        || any_texts_repeat(&file.reactors)
         || targets_repeat(&file.links, &file.inputs)
         || outputs_repeat(&file.outputs)
 }
@@ -61,14 +64,89 @@ fn any_names_repeat(reactors: &[Reactor]) -> bool
     false
 }
 
+fn any_texts_repeat(reactors: &[Reactor]) -> bool
+    ensures { result ≡ list_any texts_twice (map reactor_tree reactors.now) }
+{
+    for reactor in reactors {
+        if texts_repeat(reactor) {
+            return true;
+        }
+    }
+    false
+}
+
+/// Whether a reactor calls a thing twice, or hides a variable twice.
+fn texts_repeat(reactor: &Reactor) -> bool
+    ensures { result ≡ texts_twice (reactor_tree reactor.now) }
+{
+    called_repeat(&reactor.called) || hidden_repeat(&reactor.hidden)
+}
+
+/// Whether one of these things is called twice.
+fn called_repeat(called: &[CalledPart]) -> bool
+    ensures { result ≡ repeats bytes_eq (map (λ (c : CalledPart). unwrap_or c.name []) called.now) }
+{
+    for part in called {
+        if room_for_called(called, called_name(part), ONCE).is_none() {
+            return true;
+        }
+    }
+    false
+}
+
+/// The name of what is called so; the empty text for the reactor itself.
+pub(crate) fn called_name(part: &CalledPart) -> &str
+    ensures { result.now ≡ unwrap_or part.now.name [] }
+{
+    match &part.name {
+        Some(name) => name.as_str(),
+        None => "",
+    }
+}
+
+/// The room that is left of so much after what people call of this name; `None` where it is not enough.
+fn room_for_called(called: &[CalledPart], name: &str, room: usize) -> Option<usize>
+    ensures { let n = how_often bytes_eq (map (λ (c : CalledPart). unwrap_or c.name []) called.now) name.now in
+        SomeIff result (n ≤ room) (room - n) }
+{
+    let mut left = room;
+    for part in called {
+        if name == called_name(part) {
+            left = left.checked_sub(1)?;
+        }
+    }
+    Some(left)
+}
+
+/// Whether one of these names stands twice.
+fn hidden_repeat(hidden: &[Name]) -> bool
+    ensures { result ≡ repeats bytes_eq hidden.now }
+{
+    for name in hidden {
+        if room_for(hidden, name.as_str(), ONCE).is_none() {
+            return true;
+        }
+    }
+    false
+}
+
 #[tactic(auto, using(crate::proofs::AllNames::any_all_names))]
 fn names_repeat(reactor: &Reactor) -> bool
     ensures { result ≡ repeats bytes_eq (all_names (reactor_tree reactor.now)) }
 {
     stands_twice(reactor, "startup")
         || any_stands_twice(reactor, &reactor.variables)
+        || array_names_repeat(reactor)
         || port_names_repeat(reactor)
         || cause_names_repeat(reactor)
+}
+
+/// Whether the name of an array stands twice in its reactor.
+fn array_names_repeat(reactor: &Reactor) -> bool
+    ensures { let r = reactor_tree reactor.now in
+        result ≡ list_any (stands_twice bytes_eq (all_names r)) (array_names r) }
+{
+    any_stands_twice(reactor, &reactor.arrays)
 }
 
 /// Whether the name of an input or an output stands twice in its reactor.
@@ -114,7 +192,8 @@ fn room_in_reactor(reactor: &Reactor, name: &str) -> Option<usize>
 {
     let beside = room_beside_startup(name);
     let left = room_for(&reactor.variables, name, beside)?;
-    let rest = room_for_port_name(reactor, name, left)?;
+    let behind = room_for_array_name(reactor, name, left)?;
+    let rest = room_for_port_name(reactor, name, behind)?;
     room_for_cause_name(reactor, name, rest)
 }
 
@@ -123,6 +202,14 @@ fn room_beside_startup(name: &str) -> usize
     ensures { (if bytes_eq name.now startup then 1 else 0) + result ≡ 1 }
 {
     if name == "startup" { 0 } else { ONCE }
+}
+
+/// The room that is left of so much after the arrays of this name; `None` where it is not enough.
+fn room_for_array_name(reactor: &Reactor, name: &str, room: usize) -> Option<usize>
+    ensures { let n = how_often bytes_eq (array_names (reactor_tree reactor.now)) name.now in
+        SomeIff result (n ≤ room) (room - n) }
+{
+    room_for(&reactor.arrays, name, room)
 }
 
 /// The room that is left of so much after the inputs and outputs of this name; `None` where it is not enough.

@@ -21,7 +21,7 @@ pub(crate) fn is_undeclared<'f>(file: &'f ProgramFile, at: &mut Trail<'f>) -> bo
 }
 
 /// Whether a reaction declares a use of a name in this role. A variable needs no declaration, also where an input or an
-/// action shares its name.
+/// action shares its name, and an array none.
 pub(crate) fn is_declared(reactor: &Reactor, reaction: &Reaction, role: Role, name: &Name) -> bool
     ensures { result ≡ declares role (reactor_tree reactor.now) (reaction_tree reaction.now) name.now }
 {
@@ -29,7 +29,7 @@ pub(crate) fn is_declared(reactor: &Reactor, reaction: &Reaction, role: Role, na
         Role::Value => is_among(&reactor.variables, name) || may_read(reaction, name),
         Role::Cause => may_read(reaction, name),
         Role::Output | Role::Action => is_among(&reaction.writes, name),
-        Role::Variable | Role::Written | Role::Input => true,
+        Role::Variable | Role::Written | Role::Input | Role::Array | Role::Thing => true,
     }
 }
 

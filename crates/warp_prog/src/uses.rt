@@ -80,6 +80,14 @@ fn statement_breaks<'f>(rule: &Rule<'f>, statement: &'f Statement, at: &mut Trai
                 || breaks(rule, first, Segment::Item(2), at)
                 || breaks(rule, second, Segment::Item(3), at)
         }
+        Statement::SetAt(name, index, term) => {
+            second_breaks(rule, Role::Array, name, at)
+                || term_breaks(rule, index, 2, at)
+                || term_breaks(rule, term, 3, at)
+        }
+        Statement::While(_, test, turn) => {
+            term_breaks(rule, test, 2, at) || breaks(rule, turn, Segment::Item(3), at)
+        }
     }
 }
 
@@ -98,14 +106,17 @@ fn parts_break<'f>(rule: &Rule<'f>, term: &'f Expression, at: &mut Trail<'f>) ->
     ensures { result ≡ breaks rule.now (term_uses (term_tree term.now)) }
 {
     match term {
-        Expression::Number(_) => false,
+        Expression::Number(_) | Expression::Time | Expression::Microstep => false,
         Expression::Value(name) => use_breaks(rule, Role::Value, name, at),
         Expression::Present(name) => second_breaks(rule, Role::Cause, name, at),
         Expression::Unary(_, a) => term_breaks(rule, a, 1, at),
         Expression::Binary(_, a, b) => {
             term_breaks(rule, a, 1, at) || term_breaks(rule, b, 2, at)
         }
-        Expression::If(test, a, b) => {
+        Expression::At(name, index) => {
+            second_breaks(rule, Role::Array, name, at) || term_breaks(rule, index, 2, at)
+        }
+        Expression::If(test, a, b) | Expression::MultiplyDivide(test, a, b) => {
             term_breaks(rule, test, 1, at)
                 || term_breaks(rule, a, 2, at)
                 || term_breaks(rule, b, 3, at)

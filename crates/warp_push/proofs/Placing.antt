@@ -1,5 +1,5 @@
 -- Places that are made, and one that changes.
-use Rattle.std.proofs.Common.{◌≡◌, ℕ, zero, suc, List, [], ◌∷◌, ◌++◌, map, refl, sym, ap, ◌∙◌, append_assoc}
+use Rattle.std.proofs.Common.{◌≡◌, ℕ, zero, suc, List, [], ◌∷◌, ◌++◌, map, refl, ap, ◌∙◌, append_assoc}
 use Rattle.std.specs.Prelude.{replicate, slice_index_or, slice_set}
 use Rattle.warp_push.specs.Seats.{Grows, Seat, empty_seat, settled}
 

@@ -1,11 +1,11 @@
 -- Pages that are pushed give a watcher each place once, in order.
-use Rattle.std.proofs.Common.{◌≡◌, ℕ, zero, suc, ◌+◌, ◌-◌, ◌≤◌, ◌<◌, Bool, true, false, not, ◌&&◌, List, [], ◌∷◌, ◌++◌, Option, Some, None, if◌then◌else◌, refl, sym, ap, ◌∙◌, arith}
+use Rattle.std.proofs.Common.{◌≡◌, ℕ, zero, suc, ◌+◌, ◌-◌, ◌≤◌, ◌<◌, Bool, true, false, not, List, [], ◌∷◌, ◌++◌, Some, None, if◌then◌else◌, refl, sym, ap, ◌∙◌, arith}
 use Rattle.std.specs.Prelude.{nat_le, nat_lt}
 use Rattle.std.specs.List.{range_with_len}
 use Rattle.std.proofs.lemmas.Bool.{and_parts, leb-true, ltb-true}
 use Rattle.warp_push.specs.declared.marks.Cursor.{Cursor}
 use Rattle.warp_push.specs.declared.marks.Given.{Given}
-use Rattle.warp_push.specs.Pages.{Span, reaches, given_of, cursor_behind, places_behind, places_pushed, cursor_after, ArePushedInOrder}
+use Rattle.warp_push.specs.Pages.{Span, reaches, cursor_behind, places_behind, places_pushed, cursor_after, ArePushedInOrder}
 
 -- numbers in a row, and then those behind them
 range_join : (a n m : ℕ) → range_with_len a n ++ range_with_len (a + n) m ≡ range_with_len a (n + m)

@@ -4,3 +4,5 @@ pub mod Pages
 pub mod Pushings
 pub mod Seats
 pub mod Texts
+pub mod Stretches
+pub mod Watching

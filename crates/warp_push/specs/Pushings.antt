@@ -1,11 +1,12 @@
 -- What is pushed of what was told.
-use Rattle.std.specs.Prelude.{◌≡◌, ℕ, Bool, true, false, Option, None, Some}
+use Rattle.std.specs.Prelude.{◌≡◌, ℕ, Bool, true, false, List, Option, None, Some}
 use Rattle.warp_hub.specs.declared.words.Subject.{Subject}
 use Rattle.warp_hub.specs.declared.words.Subject.TheVariants as subject
 use Rattle.warp_watch.specs.declared.client_id.ClientId.{ClientId}
 use Rattle.warp_watch.specs.declared.question.Question.{Question}
 use Rattle.warp_watch.specs.declared.question.Question.TheVariants as question
 use Rattle.warp_push.specs.Texts.{SaysValue, marked, page_lines, pushed_mark}
+use Rattle.warp_push.specs.Watching.{TellsCells, Watched}
 use Rattle.warp_push.specs.declared.marks.News.TheVariants as news
 use Rattle.warp_push.specs.declared.watchers.Answered.{Answered}
 use Rattle.warp_push.specs.declared.watchers.Pushing.{Pushing}
@@ -27,14 +28,22 @@ IsValue what a p =
     (p.subject ≡ what) × (p.who ≡ None) × (p.len ≡ a.told.len) × ((version : ℕ) × (p.news ≡ news.Value version))
     × SaysValue p.text.items a.told.text.items
 
--- this is pushed of what was told to that question
-abbrev pub IsPushedOf : Question → Answered → Pushing → Type 0
-IsPushedOf (question.Log from until) a p = IsPage subject.Log from a p
-IsPushedOf (question.Released from until) a p = IsPage subject.Released from a p
-IsPushedOf question.Vars a p = IsValue subject.Vars a p
-IsPushedOf question.Horizon a p = IsValue subject.Horizon a p
-IsPushedOf question.Breaches a p = IsValue subject.Breach a p
-IsPushedOf question.Releases a p = ⊥
-IsPushedOf (question.Release number) a p = ⊥
-IsPushedOf (question.Counts origin) a p = ⊥
-IsPushedOf (question.Reached origin) a p = ⊥
+-- newest values of a range of variables, to all: those that were told, or a stretch of them
+abbrev pub IsCells : ℕ → ℕ → Answered → Pushing → List Watched → List Watched → Type 0
+IsCells first count a p old new =
+    (p.subject ≡ subject.Cells) × (p.who ≡ None) × (p.len ≡ a.told.len)
+    × ((version : ℕ) × (whole : Bool) × (p.news ≡ news.Cells (record { first = first; count = count }) version whole)
+    × TellsCells (record { first = first; count = count }) version whole p.text.items a.told.text.items old new)
+
+-- this is pushed of what was told to that question; of values of a range by what was kept of it, which may change
+abbrev pub IsPushedOf : Question → Answered → Pushing → List Watched → List Watched → Type 0
+IsPushedOf (question.Log from until) a p old new = IsPage subject.Log from a p
+IsPushedOf (question.Released from until) a p old new = IsPage subject.Released from a p
+IsPushedOf question.Vars a p old new = IsValue subject.Vars a p
+IsPushedOf (question.Cells first count) a p old new = IsCells first count a p old new
+IsPushedOf question.Horizon a p old new = IsValue subject.Horizon a p
+IsPushedOf question.Breaches a p old new = IsValue subject.Breach a p
+IsPushedOf question.Releases a p old new = ⊥
+IsPushedOf (question.Release number) a p old new = ⊥
+IsPushedOf (question.Counts origin) a p old new = ⊥
+IsPushedOf (question.Reached origin) a p old new = ⊥

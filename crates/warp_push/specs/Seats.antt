@@ -1,5 +1,5 @@
 -- Clients by their keys: what each watches.
-use Rattle.std.specs.Prelude.{◌≡◌, ◌⊎◌, ◌<◌, ◌+◌, ℕ, List, ◌++◌, Option, None, Some, length, replicate, slice_get, slice_set, map, Bool, true, false}
+use Rattle.std.specs.Prelude.{◌≡◌, ◌⊎◌, ◌<◌, ℕ, List, ◌++◌, Option, None, Some, length, replicate, slice_get, slice_set, map, Bool, true, false}
 use Rattle.warp_hub.specs.declared.words.Subject.{Subject}
 use Rattle.warp_hub.specs.declared.words.Subject.TheVariants as thing
 use Rattle.warp_hub.specs.declared.words.Word.{Word}
@@ -8,7 +8,7 @@ use Rattle.warp_watch.specs.declared.client_id.ClientId.{ClientId}
 use Rattle.warp_push.specs.declared.marks.Given.{Given}
 use Rattle.warp_push.specs.declared.marks.Marks.{Marks}
 use Rattle.warp_push.specs.declared.marks.News.{News}
-use Rattle.warp_push.specs.Marks.{cursor_in, given_to, marks_asked, marks_behind, marks_with, marks_without, unasked}
+use Rattle.warp_push.specs.Marks.{given_to, marks_asked, marks_behind, marks_with, marks_without, unasked}
 use Rattle.warp_push.specs.declared.marks.Cursor.{Cursor}
 use Rattle.warp_watch.specs.declared.question.Question.{Question}
 use Rattle.warp_watch.specs.declared.question.Question.TheVariants as question
@@ -20,7 +20,7 @@ pub record Seat : Type 0 where
 
 -- nothing is watched
 abbrev pub no_marks : Marks
-no_marks = record { log = None; released = None; vars = None; horizon = None; breach = None; steps = None }
+no_marks = record { log = None; released = None; vars = None; cells = None; horizon = None; breach = None; steps = None }
 
 -- a place that nobody has had
 abbrev pub empty_seat : Seat
@@ -79,6 +79,7 @@ Notes who (word.Unwatch subject) old new = May who (Watches (marks_without subje
 Notes who word.Program old new = new ≡ old
 Notes who word.Names old new = new ≡ old
 Notes who word.Vars old new = new ≡ old
+Notes who (word.Cells first count) old new = new ≡ old
 Notes who word.Releases old new = new ≡ old
 Notes who word.Digest old new = new ≡ old
 Notes who (word.Release number) old new = new ≡ old
@@ -102,6 +103,7 @@ abbrev pub AsksFor : ClientId → Question → List Seat → List Seat → Type 
 AsksFor who (question.Log from until) old new = Asks who thing.Log true old new
 AsksFor who (question.Released from until) old new = Asks who thing.Released true old new
 AsksFor who question.Vars old new = ⊥
+AsksFor who (question.Cells first count) old new = ⊥
 AsksFor who question.Releases old new = ⊥
 AsksFor who (question.Release number) old new = ⊥
 AsksFor who question.Horizon old new = ⊥
@@ -119,6 +121,7 @@ abbrev pub NotTold : Question → Option ClientId → List Seat → List Seat �
 NotTold (question.Log from until) who old new = NoPage thing.Log who old new
 NotTold (question.Released from until) who old new = NoPage thing.Released who old new
 NotTold question.Vars who old new = new ≡ old
+NotTold (question.Cells first count) who old new = new ≡ old
 NotTold question.Releases who old new = new ≡ old
 NotTold (question.Release number) who old new = new ≡ old
 NotTold question.Horizon who old new = new ≡ old
@@ -135,6 +138,7 @@ abbrev pub IsOwnPage : ClientId → Question → List Seat → Type 0
 IsOwnPage who (question.Log from until) seats = IsThere who (λ s. GoesOnAt from s.marks.log) seats
 IsOwnPage who (question.Released from until) seats = IsThere who (λ s. GoesOnAt from s.marks.released) seats
 IsOwnPage who question.Vars seats = ⊥
+IsOwnPage who (question.Cells first count) seats = ⊥
 IsOwnPage who question.Releases seats = ⊥
 IsOwnPage who (question.Release number) seats = ⊥
 IsOwnPage who question.Horizon seats = ⊥

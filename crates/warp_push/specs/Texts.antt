@@ -1,5 +1,5 @@
 -- Texts that are pushed.
-use Rattle.std.specs.Prelude.{◌≡◌, ℕ, zero, suc, ◌==◌, ◌-◌, ◌^◌, Bool, true, false, List, [], ◌∷◌, ◌++◌, codes, decimal, drop, if◌then◌else◌, length, min, nat_le, take}
+use Rattle.std.specs.Prelude.{◌≡◌, ℕ, zero, suc, ◌==◌, ◌-◌, ◌^◌, Bool, true, List, [], ◌∷◌, ◌++◌, codes, decimal, drop, if◌then◌else◌, length, min, nat_le, take}
 use Rattle.std.specs.List.{after_first, count_by, position_or_len}
 
 -- a text with the mark in front of each of its lines; whether its first byte begins a line
@@ -52,6 +52,10 @@ value_in line = from_word_end (after_first is_space line)
 -- a line that is pushed says the value that was told in this one, whatever length of the log it names
 abbrev pub SaysValue : List ℕ → List ℕ → Type 0
 SaysValue pushed told = (line : List ℕ) × (pushed ≡ pushed_mark ++ line) × (value_in line ≡ value_in told)
+
+-- how many spaces a text has
+abbrev pub spaces_in : List ℕ → ℕ
+spaces_in text = count_by is_space text
 
 -- the line that says how many lines of steps were left out
 abbrev pub skipped_text : ℕ → List ℕ

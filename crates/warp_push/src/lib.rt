@@ -4,6 +4,7 @@
 //! of what was told the news that are pushed. It has no socket, no client's bytes and no clock.
 #![tactic(auto)]
 
+mod groups;
 mod law;
 mod lists;
 mod marks;
@@ -11,10 +12,11 @@ mod page;
 mod places;
 mod shared;
 mod steps;
+mod stretch;
 mod watchers;
 
 pub use law::pages_leave_nothing_out;
-pub use marks::{Given, News};
+pub use marks::{CellRange, Given, News};
 pub use page::{FROZEN, GONE_SLOW, behind_lines, skipped_line};
 pub use steps::{Executed, Steps};
 pub use watchers::{Answered, Asked, MOST_TOLD, Pushing, Watchers};

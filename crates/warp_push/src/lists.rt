@@ -1,4 +1,4 @@
-//! The keys of those that watch each thing, and of some that watch it no longer.
+//! The keys of those that watch each thing, and of some that watch it no longer. Who watches cells stands in a group.
 
 use std::alloc::Global;
 use warp_hub::Subject;
@@ -28,11 +28,12 @@ impl Lists {
     }
 
     /// The list of this.
-    fn list(&self, subject: Subject) -> &Vec<u32> {
+    fn list(&self, subject: Subject) -> &[u32] {
         match subject {
             Subject::Log => &self.log,
             Subject::Released => &self.released,
             Subject::Vars => &self.vars,
+            Subject::Cells => &[],
             Subject::Horizon => &self.horizon,
             Subject::Breach => &self.breach,
             Subject::Steps => &self.steps,
@@ -61,6 +62,7 @@ impl Lists {
             Subject::Log => self.log.push(key).is_ok(),
             Subject::Released => self.released.push(key).is_ok(),
             Subject::Vars => self.vars.push(key).is_ok(),
+            Subject::Cells => true,
             Subject::Horizon => self.horizon.push(key).is_ok(),
             Subject::Breach => self.breach.push(key).is_ok(),
             Subject::Steps => self.steps.push(key).is_ok(),
@@ -73,6 +75,7 @@ impl Lists {
             Subject::Log => remove(&mut self.log, at),
             Subject::Released => remove(&mut self.released, at),
             Subject::Vars => remove(&mut self.vars, at),
+            Subject::Cells => None,
             Subject::Horizon => remove(&mut self.horizon, at),
             Subject::Breach => remove(&mut self.breach, at),
             Subject::Steps => remove(&mut self.steps, at),

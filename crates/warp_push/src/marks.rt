@@ -25,6 +25,24 @@ fn may_get_steps(unread: usize) -> bool
     unread < MOST_BEFORE_STEPS
 }
 
+/// So many variables from one on.
+#[derive(Clone, Copy)]
+pub struct CellRange {
+    /// The number of the first.
+    pub first: u32,
+    /// How many.
+    pub count: u32,
+}
+
+impl CellRange {
+    /// Whether it is this one.
+    pub(crate) fn is(self, other: CellRange) -> bool
+        ensures { result ≡ marks.is_range self other }
+    {
+        self.first == other.first && self.count == other.count
+    }
+}
+
 /// What is pushed to who watches a thing.
 #[derive(Clone, Copy)]
 pub enum News {
@@ -42,6 +60,15 @@ pub enum News {
     },
     /// The newest value, of this number.
     Value(u64),
+    /// The newest values of a range of variables.
+    Cells {
+        /// The range.
+        range: CellRange,
+        /// Their number.
+        version: u64,
+        /// Whether all are told, or a stretch with those that differ from the values of the number before.
+        is_whole: bool,
+    },
     /// So many lines of steps, before which so many were left out.
     Steps {
         /// How many were left out before.
@@ -139,7 +166,7 @@ impl Cursor {
                 self.is_asked &= !is_own;
                 self.take(from, next, frozen)
             }
-            News::Value(_) | News::Steps { .. } => NOTHING,
+            News::Value(_) | News::Cells { .. } | News::Steps { .. } => NOTHING,
         }
     }
 }
@@ -182,6 +209,69 @@ fn take_value(seen: &mut Option<u64>, news: News, unread: usize) -> Option<Given
         return None;
     };
     Some(value_of(seen, news, unread))
+}
+
+/// What a watcher of cells watches, and the number of the newest values of it that were pushed last, 0 for none.
+#[derive(Clone, Copy)]
+pub(crate) struct CellsSeen {
+    pub(crate) range: CellRange,
+    pub(crate) seen: u64,
+}
+
+/// Whether a watcher of cells gets values of this range and number, all of them or a stretch, while so many bytes are to be
+/// written to it: it was not pushed them, and of a stretch it was pushed those before.
+fn takes_cells(
+    mark: &CellsSeen,
+    range: CellRange,
+    version: u64,
+    is_whole: bool,
+    unread: usize,
+) -> bool
+    ensures { result ≡ marks.takes_cells range version is_whole unread mark.now }
+{
+    if !may_get_values(unread) || !mark.range.is(range) || mark.seen == version {
+        return false;
+    }
+    is_whole || mark.seen < version && version - mark.seen == 1
+}
+
+/// What a watcher of cells gets of news, while so many bytes are to be written to it.
+fn cells_of(mark: &mut CellsSeen, news: News, unread: usize) -> Given
+    ensures given { result ≡ marks.cells_given news unread mark.old }
+    ensures after { mark.new ≡ marks.cells_behind news unread mark.old }
+{
+    let News::Cells {
+        range,
+        version,
+        is_whole,
+    } = news
+    else {
+        return NOTHING;
+    };
+    if !takes_cells(mark, range, version, is_whole, unread) {
+        return NOTHING;
+    }
+    mark.seen = version;
+    ALL
+}
+
+/// The same; none where nobody watches.
+fn take_cells(mark: &mut Option<CellsSeen>, news: News, unread: usize) -> Option<Given>
+    ensures given { result ≡ marks.range_given news unread mark.old }
+    ensures after { mark.new ≡ marks.range_behind news unread mark.old }
+{
+    let Some(mark) = mark else {
+        return None;
+    };
+    Some(cells_of(mark, news, unread))
+}
+
+/// The number of the newest values that a watcher of cells was pushed last, if it is one.
+fn seen_of(mark: Option<CellsSeen>) -> Option<u64>
+    ensures { result ≡ marks.seen_of mark }
+{
+    let mark = mark?;
+    Some(mark.seen)
 }
 
 /// Where the lines begin that a watcher gets of so many, if there are any.
@@ -272,6 +362,7 @@ pub(crate) struct Marks {
     pub(crate) log: Option<Cursor>,
     pub(crate) released: Option<Cursor>,
     pub(crate) vars: Option<u64>,
+    pub(crate) cells: Option<CellsSeen>,
     pub(crate) horizon: Option<u64>,
     pub(crate) breach: Option<u64>,
     pub(crate) steps: Option<u64>,
@@ -282,6 +373,7 @@ pub(crate) const NO_MARKS: Marks = Marks {
     log: None,
     released: None,
     vars: None,
+    cells: None,
     horizon: None,
     breach: None,
     steps: None,
@@ -291,14 +383,16 @@ pub(crate) const NO_MARKS: Marks = Marks {
 #[derive(Clone, Copy)]
 pub(crate) struct Unpushed {
     pub(crate) vars: bool,
+    pub(crate) cells: bool,
     pub(crate) horizon: bool,
     pub(crate) breach: bool,
 }
 
-/// The numbers of the newest values that were told.
+/// The numbers of the newest values that were told, of cells those of the range that is asked about.
 #[derive(Clone, Copy)]
 pub(crate) struct Newest {
     pub(crate) vars: u64,
+    pub(crate) cells: u64,
     pub(crate) horizon: u64,
     pub(crate) breach: u64,
 }
@@ -311,6 +405,7 @@ pub(crate) fn subject_of(watch: Watch) -> Subject
         Watch::Log(_) => Subject::Log,
         Watch::Released(_) => Subject::Released,
         Watch::Vars => Subject::Vars,
+        Watch::Cells(..) => Subject::Cells,
         Watch::Horizon => Subject::Horizon,
         Watch::Breach => Subject::Breach,
         Watch::Steps => Subject::Steps,
@@ -328,6 +423,12 @@ impl Marks {
                 self.released = Some(Cursor::new(number, is_asked(self.released)));
             }
             Watch::Vars => self.vars = Some(0),
+            Watch::Cells(first, count) => {
+                self.cells = Some(CellsSeen {
+                    range: CellRange { first, count },
+                    seen: 0,
+                });
+            }
             Watch::Horizon => self.horizon = Some(0),
             Watch::Breach => self.breach = Some(0),
             Watch::Steps => self.steps = Some(0),
@@ -342,10 +443,19 @@ impl Marks {
             Subject::Log => self.log = None,
             Subject::Released => self.released = None,
             Subject::Vars => self.vars = None,
+            Subject::Cells => self.cells = None,
             Subject::Horizon => self.horizon = None,
             Subject::Breach => self.breach = None,
             Subject::Steps => self.steps = None,
         }
+    }
+
+    /// The cells that it watches, if it does.
+    pub(crate) fn range(&self) -> Option<CellRange>
+        ensures { result ≡ marks.range_in self.now }
+    {
+        let mark = self.cells?;
+        Some(mark.range)
     }
 
     /// Where it goes on, of what comes in pages, if it watches it.
@@ -355,7 +465,8 @@ impl Marks {
         match subject {
             Subject::Log => self.log,
             Subject::Released => self.released,
-            Subject::Vars | Subject::Horizon | Subject::Breach | Subject::Steps => None,
+            Subject::Vars | Subject::Cells | Subject::Horizon | Subject::Breach | Subject::Steps =>
+                None,
         }
     }
 
@@ -367,7 +478,8 @@ impl Marks {
         match subject {
             Subject::Log => ask(&mut self.log, is_asked),
             Subject::Released => ask(&mut self.released, is_asked),
-            Subject::Vars | Subject::Horizon | Subject::Breach | Subject::Steps => {}
+            Subject::Vars | Subject::Cells | Subject::Horizon | Subject::Breach | Subject::Steps =>
+                {}
         }
     }
 
@@ -375,6 +487,7 @@ impl Marks {
     pub(crate) fn unpushed(&self) -> Unpushed {
         Unpushed {
             vars: is_unpushed(self.vars),
+            cells: is_unpushed(seen_of(self.cells)),
             horizon: is_unpushed(self.horizon),
             breach: is_unpushed(self.breach),
         }
@@ -386,6 +499,7 @@ impl Marks {
     {
         Unpushed {
             vars: lacks(self.vars, newest.vars),
+            cells: lacks(seen_of(self.cells), newest.cells),
             horizon: lacks(self.horizon, newest.horizon),
             breach: lacks(self.breach, newest.breach),
         }
@@ -401,6 +515,7 @@ impl Marks {
             Subject::Log => take_page(&mut self.log, news),
             Subject::Released => take_page(&mut self.released, news),
             Subject::Vars => take_value(&mut self.vars, news, unread),
+            Subject::Cells => take_cells(&mut self.cells, news, unread),
             Subject::Horizon => take_value(&mut self.horizon, news, unread),
             Subject::Breach => take_value(&mut self.breach, news, unread),
             Subject::Steps => take_steps(&mut self.steps, news, unread),

@@ -1,6 +1,6 @@
 //! What is pushed, as text: lines with their marks.
 
-ghost use Rattle.std.specs.Prelude.{◌≡◌, ◌++◌, ◌==◌, ◌∷◌, ◌↔◌, [], IfOk, IsTrue, OnOk, cond, if◌then◌else◌};
+ghost use Rattle.std.specs.Prelude.{◌≡◌, ◌++◌, ◌==◌, ◌∷◌, ◌↔◌, ◌+◌, ◌<◌, ◌≤◌, [], IfOk, IfSome, IsTrue, OnOk, cond, drop, if◌then◌else◌, length};
 ghost use Rattle.std.specs.List.{after_first, position};
 ghost use Rattle.warp_push.specs.Marks.{sum_64};
 ghost use Rattle.warp_push.specs.Texts.{behind_lines, ends_word, from_word_end, lines_in, marked, page_lines};
@@ -106,8 +106,17 @@ fn find(text: &[u8], byte: u8) -> Option<usize>
     text.iter().position(|b| *b == byte)
 }
 
+/// Where the first of these bytes is behind so many.
+pub(crate) fn find_behind(text: &[u8], start: usize, byte: u8) -> Option<usize>
+    requires { start ≤ length text.now }
+    ensures found { result ≡ position (λ b. b == byte) (drop start text.now) }
+    ensures within { IfSome result (λ at. start + at < length text.now) }
+{
+    find(&text[start..], byte)
+}
+
 /// What stands behind the first of these bytes; nothing where there is none.
-fn behind_first(text: &[u8], byte: u8) -> &[u8]
+pub(crate) fn behind_first(text: &[u8], byte: u8) -> &[u8]
     ensures { result.now ≡ after_first (λ b. b == byte) text.now }
 {
     let Some(end) = find(text, byte) else {
@@ -138,7 +147,7 @@ fn find_word_end(text: &[u8]) -> Option<usize>
 }
 
 /// From the first byte on that ends a word.
-fn from_word_end(text: &[u8]) -> &[u8]
+pub(crate) fn from_word_end(text: &[u8]) -> &[u8]
     ensures { result.now ≡ from_word_end text.now }
 {
     let Some(end) = find_word_end(text) else {

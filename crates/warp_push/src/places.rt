@@ -5,13 +5,13 @@ ghost use Rattle.warp_push.specs.Marks as marks;
 ghost use Rattle.warp_push.specs.Seats.{GetsSeat, Grows, IsAway, IsMe, IsThere, May, OnlyAsks, Takes, Watches, WatchesNothing};
 ghost use Rattle.warp_push.specs.Seats.{empty_seat, fresh_seat, no_marks, settled};
 
-use crate::marks::{Cursor, Given, Marks, NO_MARKS, Newest, News, Unpushed};
+use crate::marks::{CellRange, Cursor, Given, Marks, NO_MARKS, Newest, News, Unpushed};
 use std::alloc::{AllocError, Global};
 use std::marker::Model;
 use warp_hub::{Subject, Watch};
 use warp_watch::ClientId;
 
-/// In which lists of watchers a place stands.
+/// In which lists of watchers a place stands. Who watches cells stands in none for them, but in a group.
 #[derive(Clone, Copy)]
 struct Enlisted {
     log: bool,
@@ -39,6 +39,7 @@ impl Enlisted {
             Subject::Log => self.log,
             Subject::Released => self.released,
             Subject::Vars => self.vars,
+            Subject::Cells => false,
             Subject::Horizon => self.horizon,
             Subject::Breach => self.breach,
             Subject::Steps => self.steps,
@@ -51,6 +52,7 @@ impl Enlisted {
             Subject::Log => self.log = stands,
             Subject::Released => self.released = stands,
             Subject::Vars => self.vars = stands,
+            Subject::Cells => {}
             Subject::Horizon => self.horizon = stands,
             Subject::Breach => self.breach = stands,
             Subject::Steps => self.steps = stands,
@@ -152,6 +154,13 @@ impl Place {
         ensures { Takes subject news unread result self.old self.new }
     {
         self.marks.take(subject, news, unread)
+    }
+
+    /// The cells that its client watches, if it does.
+    fn range(&self) -> Option<CellRange>
+        ensures { result ≡ marks.range_in self.now.marks }
+    {
+        self.marks.range()
     }
 
     /// Where its client goes on, of what comes in pages, if it watches it.
@@ -261,7 +270,8 @@ impl Places {
 
     /// A client begins to watch: which newest values it was not pushed any of; none where it has no place.
     pub(crate) fn begin(&mut self, who: ClientId, watch: Watch) -> Option<Unpushed>
-        ensures { May who (Watches (marks.marks_with watch)) self.old self.new }
+        ensures begun { May who (Watches (marks.marks_with watch)) self.old self.new }
+        ensures away { IfNone result (IsAway who self.old) }
     {
         let at = who.key as usize;
         if at >= self.all.len() || !self.all[at].is_me(who) {
@@ -321,6 +331,17 @@ impl Places {
             return None;
         }
         Some(self.all[at].lacking(newest))
+    }
+
+    /// The cells that a client watches, if it does.
+    pub(crate) fn range(&self, who: ClientId) -> Option<CellRange>
+        ensures { IfSome result (λ r. IsThere who (λ s. marks.range_in s.marks ≡ Some r) self.now) }
+    {
+        let at = who.key as usize;
+        if at >= self.all.len() || !self.all[at].is_me(who) {
+            return None;
+        }
+        self.all[at].range()
     }
 
     /// Where a client goes on, of what comes in pages, if it watches it.

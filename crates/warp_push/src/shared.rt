@@ -1,6 +1,7 @@
 //! What is asked for all watchers of a thing at once.
 
-ghost use Rattle.std.specs.Prelude.{◌≡◌, ◌++◌, IfSome, OnOk, false};
+ghost use Rattle.std.specs.Prelude.{◌≡◌, ◌++◌, [], Bool, IfOk, IfSome, OnOk, false, true};
+ghost use Rattle.warp_push.specs.Watching.{KeepsLine};
 ghost use Rattle.warp_push.specs.Texts.{SaysValue, value_in};
 
 use crate::page::{marked_line, put_line, say_the_same};
@@ -140,7 +141,9 @@ pub(crate) struct Latest {
 
 impl Latest {
     /// Nothing was told, and nobody watches.
-    pub(crate) fn new(alloc: Global, question: Question) -> Latest {
+    pub(crate) fn new(alloc: Global, question: Question) -> Latest
+        ensures { (result.version ≡ 0) × (result.text.items ≡ []) }
+    {
         Latest {
             question,
             text: Vec::new(alloc),
@@ -152,12 +155,16 @@ impl Latest {
     }
 
     /// A watcher begins, if it does.
-    pub(crate) fn want(&mut self, begins: bool) {
+    pub(crate) fn want(&mut self, begins: bool)
+        ensures { (self.new.version ≡ self.old.version) × (self.new.text.items ≡ self.old.text.items) }
+    {
         self.is_wanted |= begins;
     }
 
     /// The question, if it is due at this length of the log.
-    pub(crate) fn due(&mut self, newest: u32) -> Option<Question> {
+    pub(crate) fn due(&mut self, newest: u32) -> Option<Question>
+        ensures { (self.new.version ≡ self.old.version) × (self.new.text.items ≡ self.old.text.items) }
+    {
         if self.is_asked {
             return None;
         }
@@ -169,12 +176,39 @@ impl Latest {
     }
 
     /// It could not be told: it is asked for again.
-    pub(crate) fn missed(&mut self) {
+    pub(crate) fn missed(&mut self)
+        ensures { (self.new.version ≡ self.old.version) × (self.new.text.items ≡ self.old.text.items) }
+    {
         self.is_asked = false;
     }
 
+    /// It was told, at this length of the log, that there is none.
+    pub(crate) fn lack(&mut self, len: u32)
+        ensures { (self.new.version ≡ self.old.version) × (self.new.text.items ≡ self.old.text.items) }
+    {
+        self.is_asked = false;
+        self.is_wanted = false;
+        self.seen = len;
+    }
+
+    /// Whether some watcher was not pushed it, or none was told yet.
+    pub(crate) fn is_wanted(&self) -> bool
+        ensures { result ≡ self.now.is_wanted }
+    {
+        self.is_wanted
+    }
+
+    /// Its line as it was told; nothing before the first.
+    pub(crate) fn text(&self) -> &[u8]
+        ensures { result.now ≡ self.now.text.items }
+    {
+        &self.text
+    }
+
     /// The number of the newest value.
-    pub(crate) fn version(&self) -> u64 {
+    pub(crate) fn version(&self) -> u64
+        ensures { result ≡ self.now.version }
+    {
         self.version
     }
 
@@ -185,18 +219,21 @@ impl Latest {
         self.version == 0 || !say_the_same(&self.text, text)
     }
 
-    /// Keeps a new value.
+    /// KeepsLine a new value.
     fn renew(&mut self, text: &[u8]) -> Result<(), AllocError>
-        ensures { OnOk result (self.new.text.items ≡ text.now) }
+        ensures kept { OnOk result (KeepsLine true self.old.version self.old.text.items self.new.version self.new.text.items text.now) }
+        ensures wanted { self.new.is_wanted ≡ self.old.is_wanted }
     {
         put_line(&mut self.text, text)?;
         self.version = self.version.wrapping_add(1);
         Ok(())
     }
 
-    /// Keeps a value that is another one; whether it is.
+    /// KeepsLine a value that is another one; whether it is.
     fn take(&mut self, text: &[u8]) -> Result<bool, AllocError>
-        ensures { OnOk result (value_in self.new.text.items ≡ value_in text.now) }
+        ensures kept { IfOk result (λ is_new.
+            KeepsLine is_new self.old.version self.old.text.items self.new.version self.new.text.items text.now) }
+        ensures wanted { self.new.is_wanted ≡ self.old.is_wanted }
     {
         if !self.differs(text) {
             return Ok(false);
@@ -207,7 +244,9 @@ impl Latest {
 
     /// It was told. Whether there may be watchers that were not pushed it. `Err` takes nothing on.
     fn told(&mut self, len: u32, text: &[u8]) -> Result<bool, AllocError>
-        ensures { OnOk result (value_in self.new.text.items ≡ value_in text.now) }
+        ensures { IfOk result (λ is_due. (is_new : Bool)
+            × KeepsLine is_new self.old.version self.old.text.items self.new.version self.new.text.items text.now
+            × (is_due ≡ true → self.old.is_wanted ≡ false → is_new ≡ true)) }
     {
         self.is_asked = false;
         let is_new = self.take(text)?;
@@ -219,7 +258,10 @@ impl Latest {
 
     /// It was told: its line, where there may be watchers that were not pushed it. Without memory it is asked again.
     pub(crate) fn news(&mut self, alloc: Global, len: u32, text: &[u8]) -> Option<Vec<u8>>
-        ensures { IfSome result (λ line. SaysValue line.items text.now) }
+        ensures says { IfSome result (λ line. SaysValue line.items text.now) }
+        ensures kept { IfSome result (λ line. (is_new : Bool)
+            × KeepsLine is_new self.old.version self.old.text.items self.new.version self.new.text.items text.now
+            × (self.old.is_wanted ≡ false → is_new ≡ true)) }
     {
         let Ok(is_due) = self.told(len, text) else {
             return None;

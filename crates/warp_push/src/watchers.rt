@@ -1,13 +1,16 @@
 //! Who watches what, what is asked for them, what was told, and what is pushed of it.
 
-ghost use Rattle.std.specs.Prelude.{◌≡◌, ◌≤◌, [], IfSome, None, OnErr, OnOk, false, true};
-ghost use Rattle.warp_push.specs.Pushings.{IsPage, IsPushedOf, IsValue, is_own};
+ghost use Rattle.std.specs.Prelude.{◌≡◌, ◌⊎◌, ◌≤◌, [], Contains, IfSome, None, OnErr, OnOk, Some, false, length, slice_get, true};
+ghost use Rattle.warp_push.specs.Pushings.{IsCells, IsPage, IsPushedOf, IsValue, is_own};
 ghost use Rattle.warp_push.specs.Seats.{AsksFor, GetsSeat, GoesOnAt, Grows, IsAway, IsOwnPage, IsThere, May, NoPage, NotTold, Notes};
 ghost use Rattle.warp_push.specs.Seats.{OnlyAsks, Takes, Watches, WatchesNothing};
 ghost use Rattle.warp_push.specs.Marks as marks;
+ghost use Rattle.warp_push.specs.Watching.{Stands, StandsBy, keys_of, told_range};
+ghost use Rattle.warp_hub.specs.declared.words.Watch.TheVariants.{Cells};
 
+use crate::groups::{CellNews, Groups};
 use crate::lists::Lists;
-use crate::marks::{Given, Newest, News, Unpushed, may_get_values, subject_of};
+use crate::marks::{CellRange, Given, Newest, News, Unpushed, may_get_values, subject_of};
 use crate::page::page_text;
 use crate::places::Places;
 use crate::shared::{Latest, NO_TAIL, Tail};
@@ -82,6 +85,7 @@ pub struct Watchers {
     alloc: Global,
     places: Places,
     lists: Lists,
+    groups: Groups,
     log: Tail,
     released: Tail,
     vars: Latest,
@@ -94,23 +98,23 @@ pub struct Watchers {
 }
 
 impl Model for Watchers {
-    ghost use Rattle.std.specs.Prelude.{List};
-    ghost use Rattle.warp_push.specs.Seats.{Seat};
+    ghost use Rattle.warp_push.specs.Watching.{Watching};
 
-    ghost Value = { List Seat };
+    ghost Value = { Watching };
 
-    ghost view = { λ w. w.places };
+    ghost view = { λ w. record { seats = w.places; cells = w.groups } };
 }
 
 impl Watchers {
     /// Nobody watches.
     pub fn new(alloc: Global) -> Watchers
-        ensures { result ≡ [] }
+        ensures { result ≡ record { seats = []; cells = [] } }
     {
         Watchers {
             alloc,
             places: Places::new(alloc),
             lists: Lists::new(alloc),
+            groups: Groups::new(alloc),
             log: NO_TAIL,
             released: NO_TAIL,
             vars: Latest::new(alloc, Question::Vars),
@@ -123,17 +127,28 @@ impl Watchers {
 
     /// Gives a client its place, in which it watches nothing; `Err` where there is no memory for it.
     pub fn place(&mut self, who: ClientId) -> Result<(), AllocError>
-        ensures ok { OnOk result (GetsSeat who self.old self.new) }
-        ensures err { OnErr result (Grows self.old self.new) }
+        ensures ok { OnOk result (GetsSeat who self.old.seats self.new.seats) }
+        ensures err { OnErr result (Grows self.old.seats self.new.seats) }
+        ensures cells { self.new.cells ≡ self.old.cells }
     {
         self.places.place(who)
     }
 
     /// A client is gone: it watches nothing.
     pub fn leave(&mut self, who: ClientId)
-        ensures { May who WatchesNothing self.old self.new }
+        ensures { May who WatchesNothing self.old.seats self.new.seats }
     {
+        self.quit(who);
         self.places.clear(who);
+    }
+
+    /// A client is of the group of no range any more.
+    fn quit(&mut self, who: ClientId)
+        ensures { self.new.seats ≡ self.old.seats }
+    {
+        if let Some(range) = self.places.range(who) {
+            self.groups.quit(range, who.key);
+        }
     }
 
     /// Whether somebody may watch steps.
@@ -143,17 +158,19 @@ impl Watchers {
 
     /// A client said this word, which begins or ends a watch; whether there was memory.
     pub fn note(&mut self, who: ClientId, word: &Word) -> bool
-        ensures { Notes who word.now self.old self.new }
+        ensures noted { Notes who word.now self.old.seats self.new.seats }
+        ensures stands { Stands who word.now result self.old.seats self.new.cells }
     {
         match *word {
             Word::Watch(watch) => self.begin(who, watch),
             Word::Unwatch(subject) => {
-                self.places.end(who, subject);
+                self.end(who, subject);
                 true
             }
             Word::Program
             | Word::Names
             | Word::Vars
+            | Word::Cells(..)
             | Word::Releases
             | Word::Digest
             | Word::Release(_)
@@ -164,22 +181,74 @@ impl Watchers {
 
     /// A client begins to watch; whether there was memory.
     fn begin(&mut self, who: ClientId, watch: Watch) -> bool
-        ensures { May who (Watches (marks.marks_with watch)) self.old self.new }
+        ensures begun { May who (Watches (marks.marks_with watch)) self.old.seats self.new.seats }
+        ensures stands { StandsBy who watch result self.old.seats self.new.cells }
+    {
+        match watch {
+            Watch::Cells(first, count) => self.begin_cells(who, CellRange { first, count }),
+            Watch::Log(_)
+            | Watch::Released(_)
+            | Watch::Vars
+            | Watch::Horizon
+            | Watch::Breach
+            | Watch::Steps => self.begin_listed(who, watch),
+        }
+    }
+
+    /// A client begins to watch what is told in lists of watchers; whether there was memory.
+    fn begin_listed(&mut self, who: ClientId, watch: Watch) -> bool
+        ensures { May who (Watches (marks.marks_with watch)) self.old.seats self.new.seats }
     {
         let Some(unpushed) = self.places.begin(who, watch) else {
             return true;
         };
-        self.want_values(unpushed);
+        self.want_values(who, unpushed);
         self.enlist(who, subject_of(watch)) && self.want(who.key)
     }
 
-    /// Some watcher was not pushed these values.
-    fn want_values(&mut self, unpushed: Unpushed)
+    /// A client begins to watch the values of this range, and those of no other any more; whether there was memory.
+    fn begin_cells(&mut self, who: ClientId, range: CellRange) -> bool
+        ensures begun { May who (Watches (marks.marks_with (Cells range.first range.count))) self.old.seats self.new.seats }
+        ensures stands { result ≡ true → IsAway who self.old.seats ⊎ Contains (keys_of range self.new.cells) who.key }
+    {
+        self.quit(who);
+        let watch = Watch::Cells(range.first, range.count);
+        let Some(unpushed) = self.places.begin(who, watch) else {
+            return true;
+        };
+        self.want_values(who, unpushed);
+        self.groups.join(self.alloc, range, who.key)
+    }
+
+    /// A client watches this no longer.
+    fn end(&mut self, who: ClientId, subject: Subject)
+        ensures { May who (Watches (marks.marks_without subject)) self.old.seats self.new.seats }
+    {
+        if let Subject::Cells = subject {
+            self.quit(who);
+        }
+        self.places.end(who, subject);
+    }
+
+    /// A watcher was not pushed these values.
+    fn want_values(&mut self, who: ClientId, unpushed: Unpushed)
         ensures { self.new ≡ self.old }
     {
+        if unpushed.cells {
+            self.want_cells(who);
+        }
         self.vars.want(unpushed.vars);
         self.horizon.want(unpushed.horizon);
         self.breach.want(unpushed.breach);
+    }
+
+    /// A watcher of cells was not pushed the newest of them.
+    fn want_cells(&mut self, who: ClientId)
+        ensures { self.new ≡ self.old }
+    {
+        if let Some(range) = self.places.range(who) {
+            self.groups.want(range);
+        }
     }
 
     /// Puts a client into a list of watchers, once; whether there was memory.
@@ -231,7 +300,7 @@ impl Watchers {
     /// The next that may want pages of its own; it stands among them no more.
     pub fn next_wanting(&mut self) -> Option<ClientId>
         ensures same { self.new ≡ self.old }
-        ensures there { IfSome result (λ who. IsThere who (λ s. Unit {0}) self.new) }
+        ensures there { IfSome result (λ who. IsThere who (λ s. Unit {0}) self.new.seats) }
     {
         let key = self.wanting.pop_front()?;
         self.places.set_wanting(key, false);
@@ -241,9 +310,10 @@ impl Watchers {
     /// The page that a client wants of its own, which is on its way then: it is behind the others, and none is. Where it
     /// wants another behind it, it stands among those that may want pages again.
     pub fn own_page(&mut self, who: ClientId) -> Option<Question>
-        ensures only { OnlyAsks self.old self.new }
-        ensures own { IfSome result (λ question. IsOwnPage who question self.old) }
-        ensures asked { IfSome result (λ question. AsksFor who question self.old self.new) }
+        ensures only { OnlyAsks self.old.seats self.new.seats }
+        ensures own { IfSome result (λ question. IsOwnPage who question self.old.seats) }
+        ensures asked { IfSome result (λ question. AsksFor who question self.old.seats self.new.seats) }
+        ensures cells { self.new.cells ≡ self.old.cells }
     {
         let question = self.next_page(who)?;
         if self.wants_page(who) {
@@ -254,9 +324,10 @@ impl Watchers {
 
     /// The page that a client wants of its own, which is on its way then.
     fn next_page(&mut self, who: ClientId) -> Option<Question>
-        ensures only { OnlyAsks self.old self.new }
-        ensures own { IfSome result (λ question. IsOwnPage who question self.old) }
-        ensures asked { IfSome result (λ question. AsksFor who question self.old self.new) }
+        ensures only { OnlyAsks self.old.seats self.new.seats }
+        ensures own { IfSome result (λ question. IsOwnPage who question self.old.seats) }
+        ensures asked { IfSome result (λ question. AsksFor who question self.old.seats self.new.seats) }
+        ensures cells { self.new.cells ≡ self.old.cells }
     {
         if let Some((from, until)) = self.page_of(who, Subject::Log) {
             self.places.ask(who, Subject::Log, true);
@@ -274,7 +345,7 @@ impl Watchers {
 
     /// From where to where the page goes that a client wants of its own.
     fn page_of(&self, who: ClientId, subject: Subject) -> Option<(u32, u32)>
-        ensures { IfSome result (λ at. IsThere who (λ s. GoesOnAt at.0 (marks.cursor_in subject s.marks)) self.now) }
+        ensures { IfSome result (λ at. IsThere who (λ s. GoesOnAt at.0 (marks.cursor_in subject s.marks)) self.now.seats) }
     {
         let cursor = self.places.cursor(who, subject)?;
         let tail = self.tail(subject);
@@ -332,16 +403,19 @@ impl Watchers {
                 return Some(question);
             }
         }
-        if !self.lists.is_any(Subject::Breach) {
-            return None;
+        if self.lists.is_any(Subject::Breach) {
+            if let Some(question) = self.breach.due(newest) {
+                return Some(question);
+            }
         }
-        self.breach.due(newest)
+        self.groups.due(newest)
     }
 
     /// What was asked could not be told: it is asked again.
     pub fn missed(&mut self, asked: &Asked)
-        ensures only { OnlyAsks self.old self.new }
-        ensures again { NotTold asked.now.question asked.now.who self.old self.new }
+        ensures only { OnlyAsks self.old.seats self.new.seats }
+        ensures again { NotTold asked.now.question asked.now.who self.old.seats self.new.seats }
+        ensures cells { self.new.cells ≡ self.old.cells }
     {
         match asked.question {
             Question::Log { .. } => self.miss_page(asked.who, Subject::Log),
@@ -349,6 +423,7 @@ impl Watchers {
             Question::Vars => self.vars.missed(),
             Question::Horizon => self.horizon.missed(),
             Question::Breaches => self.breach.missed(),
+            Question::Cells { first, count } => self.groups.missed(CellRange { first, count }),
             Question::Releases
             | Question::Release(_)
             | Question::Counts(_)
@@ -358,8 +433,9 @@ impl Watchers {
 
     /// A page does not come, for one watcher or for all.
     fn miss_page(&mut self, who: Option<ClientId>, subject: Subject)
-        ensures only { OnlyAsks self.old self.new }
-        ensures again { NoPage subject who self.old self.new }
+        ensures only { OnlyAsks self.old.seats self.new.seats }
+        ensures again { NoPage subject who self.old.seats self.new.seats }
+        ensures cells { self.new.cells ≡ self.old.cells }
     {
         match who {
             Some(who) => {
@@ -387,7 +463,8 @@ impl Watchers {
 
     /// This was told. Without memory it is asked again.
     pub fn keep(&mut self, asked: Asked, told: Told)
-        ensures { OnlyAsks self.old self.new }
+        ensures only { OnlyAsks self.old.seats self.new.seats }
+        ensures cells { self.new.cells ≡ self.old.cells }
     {
         if self.told.push_back(Answered { asked, told }).is_err() {
             self.missed(&asked);
@@ -408,8 +485,8 @@ impl Watchers {
 
     /// What is pushed of what was told, if anything is. Without memory it is asked again.
     pub fn pushing(&mut self, answered: &Answered) -> Option<Pushing>
-        ensures only { OnlyAsks self.old self.new }
-        ensures of { IfSome result (λ one. IsPushedOf answered.now.asked.question answered.now one) }
+        ensures only { OnlyAsks self.old.seats self.new.seats }
+        ensures of { IfSome result (λ one. IsPushedOf answered.now.asked.question answered.now one self.old.cells self.new.cells) }
     {
         match answered.asked.question {
             Question::Log { from, until } => self.page(Subject::Log, from, until, answered),
@@ -419,6 +496,7 @@ impl Watchers {
             Question::Vars => self.value(Subject::Vars, answered),
             Question::Horizon => self.value(Subject::Horizon, answered),
             Question::Breaches => self.value(Subject::Breach, answered),
+            Question::Cells { first, count } => self.cells(CellRange { first, count }, answered),
             Question::Releases
             | Question::Release(_)
             | Question::Counts(_)
@@ -434,8 +512,9 @@ impl Watchers {
         until: u32,
         answered: &Answered,
     ) -> Option<Pushing>
-        ensures only { OnlyAsks self.old self.new }
+        ensures only { OnlyAsks self.old.seats self.new.seats }
         ensures of { IfSome result (λ one. IsPage subject from answered.now one) }
+        ensures cells { self.new.cells ≡ self.old.cells }
     {
         let told = &answered.told;
         let Ok(text) = page_text(self.alloc, &told.text, told.frozen) else {
@@ -497,6 +576,25 @@ impl Watchers {
         }
     }
 
+    /// The newest values of a range of variables that are pushed to those that were not pushed them. None where it has none.
+    fn cells(&mut self, range: CellRange, answered: &Answered) -> Option<Pushing>
+        ensures same { self.new.seats ≡ self.old.seats }
+        ensures of { IfSome result (λ one. IsCells range.first range.count answered.now one self.old.cells self.new.cells) }
+    {
+        let told = &answered.told;
+        let CellNews {
+            version,
+            is_whole,
+            text,
+        } = self.groups.news(self.alloc, range, told.len, &told.text)?;
+        let news = News::Cells {
+            range,
+            version,
+            is_whole,
+        };
+        Some(Pushing::to_all(Subject::Cells, news, told.len, text))
+    }
+
     /// This was pushed: who wants pages of its own behind it stands among those that may.
     pub fn pushed(&mut self, pushing: &Pushing)
         ensures { self.new ≡ self.old }
@@ -510,21 +608,48 @@ impl Watchers {
         }
     }
 
-    /// How many stand in a list of watchers.
-    pub fn count(&self, subject: Subject) -> usize {
-        self.lists.count(subject)
+    /// How many stand in the list of those to whom this may be pushed.
+    pub fn count(&self, pushing: &Pushing) -> usize
+        ensures { IfSome (told_range pushing.now.news) (λ range. result ≡ length (keys_of range self.now.cells)) }
+    {
+        match told_range(pushing.news) {
+            Some(range) => self.groups.count(range),
+            None => self.lists.count(pushing.subject),
+        }
     }
 
-    /// Who stands at this place of a list of watchers.
-    pub fn watcher(&self, subject: Subject, at: usize) -> Option<ClientId>
-        ensures { IfSome result (λ who. IsThere who (λ s. Unit {0}) self.now) }
+    /// Who stands at this place of that list.
+    pub fn watcher(&self, pushing: &Pushing, at: usize) -> Option<ClientId>
+        ensures listed { IfSome (told_range pushing.now.news) (λ range.
+            IfSome result (λ who. slice_get (keys_of range self.now.cells) at ≡ Some who.key)) }
+        ensures there { IfSome result (λ who. IsThere who (λ s. Unit {0}) self.now.seats) }
     {
-        let key = self.lists.key(subject, at)?;
+        let key = self.key(pushing, at)?;
         self.places.who(key)
     }
 
-    /// Who stands at this place of a list watches no longer: it leaves the list.
-    pub fn drop_at(&mut self, subject: Subject, at: usize)
+    /// The key at this place of that list.
+    fn key(&self, pushing: &Pushing, at: usize) -> Option<u32>
+        ensures { IfSome (told_range pushing.now.news) (λ range. result ≡ slice_get (keys_of range self.now.cells) at) }
+    {
+        match told_range(pushing.news) {
+            Some(range) => self.groups.key(range, at),
+            None => self.lists.key(pushing.subject, at),
+        }
+    }
+
+    /// Who stands at this place of that list watches no longer: it leaves the list.
+    pub fn drop_at(&mut self, pushing: &Pushing, at: usize)
+        ensures { self.new.seats ≡ self.old.seats }
+    {
+        match pushing.news {
+            News::Cells { range, .. } => self.groups.remove(range, at),
+            _ => self.drop_listed(pushing.subject, at),
+        }
+    }
+
+    /// Who stands at this place of a list leaves it.
+    fn drop_listed(&mut self, subject: Subject, at: usize)
         ensures { self.new ≡ self.old }
     {
         let Some(key) = self.lists.remove(subject, at) else {
@@ -538,25 +663,34 @@ impl Watchers {
     pub fn read_on(&mut self, who: ClientId, unread: usize) -> bool
         ensures same { self.new ≡ self.old }
         ensures gets { result ≡ true → marks.gets_values unread ≡ true }
-        ensures there { result ≡ true → IsThere who (λ s. Unit {0}) self.old }
+        ensures there { result ≡ true → IsThere who (λ s. Unit {0}) self.old.seats }
     {
         if !may_get_values(unread) {
             return false;
         }
-        let newest = self.newest();
+        let newest = self.newest(who);
         let Some(lacking) = self.places.lacking(who, newest) else {
             return false;
         };
-        self.want_values(lacking);
-        lacking.vars || lacking.horizon || lacking.breach
+        self.want_values(who, lacking);
+        lacking.vars || lacking.cells || lacking.horizon || lacking.breach
     }
 
-    /// The numbers of the newest values.
-    fn newest(&self) -> Newest {
+    /// The numbers of the newest values, of cells of those that a client watches.
+    fn newest(&self, who: ClientId) -> Newest {
         Newest {
             vars: self.vars.version(),
+            cells: self.cells_version(who),
             horizon: self.horizon.version(),
             breach: self.breach.version(),
+        }
+    }
+
+    /// The number of the newest values of the cells that a client watches; 0 where it watches none.
+    fn cells_version(&self, who: ClientId) -> u64 {
+        match self.places.range(who) {
+            Some(range) => self.groups.version(range),
+            None => 0,
         }
     }
 
@@ -569,8 +703,9 @@ impl Watchers {
         news: News,
         unread: usize,
     ) -> Option<Given>
-        ensures takes { May who (Takes subject news unread result) self.old self.new }
-        ensures away { IsAway who self.old → result ≡ None }
+        ensures takes { May who (Takes subject news unread result) self.old.seats self.new.seats }
+        ensures away { IsAway who self.old.seats → result ≡ None }
+        ensures cells { self.new.cells ≡ self.old.cells }
     {
         self.places.take(who, subject, news, unread)
     }
@@ -598,5 +733,15 @@ fn is_own(who: Option<ClientId>) -> bool
     match who {
         Some(_) => true,
         None => false,
+    }
+}
+
+/// The range of which news tell values, if they tell any.
+fn told_range(news: News) -> Option<CellRange>
+    ensures { result ≡ told_range news }
+{
+    match news {
+        News::Page { .. } | News::Value(_) | News::Steps { .. } => None,
+        News::Cells { range, .. } => Some(range),
     }
 }

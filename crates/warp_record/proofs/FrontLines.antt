@@ -8,7 +8,7 @@ use Rattle.std.proofs.Math.Seq.{take-append_seam}
 use Rattle.std.proofs.lemmas.Bool.{cases_lt}
 use Rattle.warp_tag.specs.Limits.{last_microstep, longest_line, most_origins, most_records}
 use Rattle.warp_tag.specs.declared.form.Form.{Form}
-use Rattle.warp_tag.specs.declared.form.Form.TheVariants.{One, Two, Three}
+use Rattle.warp_tag.specs.declared.form.Form.TheVariants.{One, Two, Three, Four}
 use Rattle.warp_record.specs.declared.line.Line.{Line}
 use Rattle.warp_record.specs.Line.{IsLine, line_words, spelling}
 use Rattle.warp_record.specs.Lines.{IsOneLine, first_end, is_end}
@@ -110,13 +110,16 @@ pub small_origin : (f : Form) (n : ℕ) → n < 10 → n < most_origins f
 small_origin One n small = omega (arith, small)
 small_origin Two n small = omega (arith, small)
 small_origin Three n small = omega (arith, small)
+small_origin Four n small = omega (arith, small)
 
 pub small_microstep : (f : Form) (n : ℕ) → n < 10 → n ≤ last_microstep f
 small_microstep One n small = omega (arith, small)
 small_microstep Two n small = omega (arith, small)
 small_microstep Three n small = omega (arith, small)
+small_microstep Four n small = omega (arith, small)
 
 pub small_count : (f : Form) (n : ℕ) → n < 10 → n ≤ most_records f
 small_count One n small = omega (arith, small)
 small_count Two n small = omega (arith, small)
 small_count Three n small = omega (arith, small)
+small_count Four n small = omega (arith, small)

@@ -7,7 +7,7 @@ use Rattle.warp_record.specs.declared.line.Line.TheVariants as line
 use Rattle.warp_record.specs.declared.line.Look.TheVariants as look
 use Rattle.warp_record.specs.declared.line.Query.TheVariants as query
 use Rattle.warp_record.specs.declared.record.Record.{Record}
-use Rattle.warp_record.specs.declared.record.Record.TheVariants.{Event, Withdraw, Announce}
+use Rattle.warp_record.specs.declared.record.Record.TheVariants.{Event, Withdraw, Announce, Joint}
 use Rattle.warp_record.specs.declared.reply.Reply.{Reply}
 use Rattle.warp_record.specs.declared.reply.Reply.TheVariants.{Taken, Known, Refused, Var, Outputs, Output, Nothing, Horizon, Released, Lost, Breach, Log, Collected, Board, Row, NoRow}
 use Rattle.warp_record.specs.Line.{IsLine, line_words, spelling}
@@ -22,6 +22,7 @@ pub words_of_record : («record» : Record) → (0 < length (record_words «reco
 words_of_record (Event origin tag input value) = (omega arith, omega arith)
 words_of_record (Withdraw origin tag) = (omega arith, omega arith)
 words_of_record (Announce origin tag events withdrawn) = (omega arith, omega arith)
+words_of_record (Joint tag events withdrawn) = (omega arith, omega arith)
 
 -- how many words a line has
 few_words : (said : Line) → (0 < length (line_words said)) × (length (line_words said) ≤ 6)
@@ -33,6 +34,7 @@ few_words (line.Ask query.Horizon) = (omega arith, omega arith)
 few_words (line.Ask query.Released) = (omega arith, omega arith)
 few_words (line.Ask query.Lost) = (omega arith, omega arith)
 few_words (line.Ask (query.Breach n)) = (omega arith, omega arith)
+few_words (line.Ask query.JointBreach) = (omega arith, omega arith)
 few_words (line.Ask (query.Log n)) = (omega arith, omega arith)
 few_words line.Collect = (omega arith, omega arith)
 few_words (line.Look look.Board) = (omega arith, omega arith)

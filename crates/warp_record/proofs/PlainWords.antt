@@ -16,7 +16,7 @@ use Rattle.warp_record.specs.declared.line.Line.TheVariants as line
 use Rattle.warp_record.specs.declared.line.Look.TheVariants as look
 use Rattle.warp_record.specs.declared.line.Query.TheVariants as query
 use Rattle.warp_record.specs.declared.record.Record.{Record}
-use Rattle.warp_record.specs.declared.record.Record.TheVariants.{Event, Withdraw, Announce}
+use Rattle.warp_record.specs.declared.record.Record.TheVariants.{Event, Withdraw, Announce, Joint}
 use Rattle.warp_record.specs.declared.reply.Refusal.{Refusal}
 use Rattle.warp_record.specs.declared.reply.Refusal.TheVariants.{Syntax, NoOrigin, PastStop, NoInput, NotYours, NoVar, LogFull, NoMemory, TooLong, Busy, NoBoard}
 use Rattle.warp_record.specs.declared.reply.Reply.{Reply}
@@ -114,6 +114,10 @@ plain_record (Announce origin tag events withdrawn) fits =
     (tagged tag (decimal events ∷ decimal withdrawn ∷ []) fits.tag_fits
     (plain_number events (decimal withdrawn ∷ []) (omega (arith, fits.events_fit))
     (plain_number withdrawn [] (omega (arith, fits.withdrawn_fit)) refl)))
+plain_record (Joint tag events withdrawn) fits =
+    tagged tag (decimal events ∷ decimal withdrawn ∷ []) fits.tag_fits
+    (plain_number events (decimal withdrawn ∷ []) (omega (arith, fits.events_fit))
+    (plain_number withdrawn [] (omega (arith, fits.withdrawn_fit)) refl))
 
 -- the words of a line are plain
 pub plain_line : (said : Line) → IsLine widest said → are_plain (line_words said) ≡ true
@@ -125,6 +129,7 @@ plain_line (line.Ask query.Horizon) fits = refl
 plain_line (line.Ask query.Released) fits = refl
 plain_line (line.Ask query.Lost) fits = refl
 plain_line (line.Ask (query.Breach n)) fits = plain_number n [] (omega (arith, fits)) refl
+plain_line (line.Ask query.JointBreach) fits = refl
 plain_line (line.Ask (query.Log n)) fits = plain_number n [] (omega (arith, fits)) refl
 plain_line line.Collect fits = refl
 plain_line (line.Look look.Board) fits = refl

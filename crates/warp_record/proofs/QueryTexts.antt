@@ -6,7 +6,7 @@ use Rattle.warp_record.specs.declared.line.Line.{Line}
 use Rattle.warp_record.specs.declared.line.Line.TheVariants as line
 use Rattle.warp_record.specs.declared.line.Look.TheVariants as look
 use Rattle.warp_record.specs.declared.line.Query.TheVariants as query
-use Rattle.warp_record.specs.declared.record.Record.TheVariants.{Event, Withdraw, Announce}
+use Rattle.warp_record.specs.declared.record.Record.TheVariants.{Event, Withdraw, Announce, Joint}
 use Rattle.warp_record.specs.Line.{IsLine, line_words}
 
 -- the first byte of the first word
@@ -24,12 +24,14 @@ index_of_var f words (line.Ask (query.Var n)) fits are = (n, fits, cc)
 index_of_var f words (line.Put (Event origin tag input value)) fits are = absurd (omega (arith, ap first_byte are))
 index_of_var f words (line.Put (Withdraw origin tag)) fits are = absurd (omega (arith, ap first_byte are))
 index_of_var f words (line.Put (Announce origin tag events withdrawn)) fits are = absurd (omega (arith, ap first_byte are))
+index_of_var f words (line.Put (Joint tag events withdrawn)) fits are = absurd (omega (arith, ap first_byte are))
 index_of_var f words (line.Ask query.Outputs) fits are = absurd (omega (arith, ap first_byte are))
 index_of_var f words (line.Ask (query.Output n)) fits are = absurd (omega (arith, ap first_byte are))
 index_of_var f words (line.Ask query.Horizon) fits are = absurd (omega (arith, ap first_byte are))
 index_of_var f words (line.Ask query.Released) fits are = absurd (omega (arith, ap first_byte are))
 index_of_var f words (line.Ask query.Lost) fits are = absurd (omega (arith, ap first_byte are))
 index_of_var f words (line.Ask (query.Breach n)) fits are = absurd (omega (arith, ap first_byte are))
+index_of_var f words (line.Ask query.JointBreach) fits are = absurd (omega (arith, ap first_byte are))
 index_of_var f words (line.Ask (query.Log n)) fits are = absurd (omega (arith, ap first_byte are))
 index_of_var f words line.Collect fits are = absurd (omega (arith, ap first_byte are))
 index_of_var f words (line.Look look.Board) fits are = absurd (omega (arith, ap first_byte are))
@@ -42,12 +44,14 @@ index_of_output f words (line.Ask (query.Output n)) fits are = (n, fits, cc)
 index_of_output f words (line.Put (Event origin tag input value)) fits are = absurd (omega (arith, ap first_byte are))
 index_of_output f words (line.Put (Withdraw origin tag)) fits are = absurd (omega (arith, ap first_byte are))
 index_of_output f words (line.Put (Announce origin tag events withdrawn)) fits are = absurd (omega (arith, ap first_byte are))
+index_of_output f words (line.Put (Joint tag events withdrawn)) fits are = absurd (omega (arith, ap first_byte are))
 index_of_output f words (line.Ask query.Outputs) fits are = absurd (omega (arith, ap first_length are))
 index_of_output f words (line.Ask (query.Var n)) fits are = absurd (omega (arith, ap first_byte are))
 index_of_output f words (line.Ask query.Horizon) fits are = absurd (omega (arith, ap first_byte are))
 index_of_output f words (line.Ask query.Released) fits are = absurd (omega (arith, ap first_byte are))
 index_of_output f words (line.Ask query.Lost) fits are = absurd (omega (arith, ap first_byte are))
 index_of_output f words (line.Ask (query.Breach n)) fits are = absurd (omega (arith, ap first_byte are))
+index_of_output f words (line.Ask query.JointBreach) fits are = absurd (omega (arith, ap first_byte are))
 index_of_output f words (line.Ask (query.Log n)) fits are = absurd (omega (arith, ap first_byte are))
 index_of_output f words line.Collect fits are = absurd (omega (arith, ap first_byte are))
 index_of_output f words (line.Look look.Board) fits are = absurd (omega (arith, ap first_byte are))

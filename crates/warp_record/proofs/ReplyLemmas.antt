@@ -7,11 +7,11 @@ use Rattle.std.proofs.lemmas.Fmt.{decimal_injective}
 use Rattle.warp_tag.specs.Limits.{widest, greatest_count, most_records, most_rows}
 use Rattle.warp_tag.specs.Moment.{Moment, IsTagOf}
 use Rattle.warp_tag.specs.declared.form.Form.{Form}
-use Rattle.warp_tag.specs.declared.form.Form.TheVariants.{One, Two, Three}
+use Rattle.warp_tag.specs.declared.form.Form.TheVariants.{One, Two, Three, Four}
 use Rattle.warp_tag.specs.declared.out.Out.{Out}
 use Rattle.warp_tag.proofs.Forms.{records_widen}
 use Rattle.warp_record.specs.declared.record.Record.{Record}
-use Rattle.warp_record.specs.declared.record.Record.TheVariants.{Event, Withdraw, Announce}
+use Rattle.warp_record.specs.declared.record.Record.TheVariants.{Event, Withdraw, Announce, Joint}
 use Rattle.warp_record.specs.declared.reply.Refusal.{Refusal}
 use Rattle.warp_record.specs.declared.reply.Reply.{Reply}
 use Rattle.warp_record.specs.declared.reply.Reply.TheVariants.{Taken, Known, Refused, Var, Outputs, Output, Nothing, Horizon, Released, Lost, Breach, Log, Collected, Board, Row, NoRow}
@@ -33,6 +33,7 @@ refusal_fits : (f : Form) (refusal : Refusal) → refusal_number refusal ≤ mos
 refusal_fits One refusal = omega (arith, refusal_number-le refusal)
 refusal_fits Two refusal = omega (arith, refusal_number-le refusal)
 refusal_fits Three refusal = omega (arith, refusal_number-le refusal)
+refusal_fits Four refusal = omega (arith, refusal_number-le refusal)
 
 -- the reply is the one that its words say
 reply_is : (f : Form) (words : List (List ℕ)) (reply : Reply) → IsReply f reply → words ≡ reply_words reply → reply ≡ reply_said words
@@ -138,6 +139,7 @@ keyword_first (Breach log broken) = refl
 keyword_first (Log log (Event origin tag input value)) = refl
 keyword_first (Log log (Withdraw origin tag)) = refl
 keyword_first (Log log (Announce origin tag events withdrawn)) = refl
+keyword_first (Log log (Joint tag events withdrawn)) = refl
 keyword_first (Collected log) = refl
 keyword_first (Board count frozen) = refl
 keyword_first (Row out) = refl
@@ -178,6 +180,7 @@ second_word f (Breach log broken) fits two = absurd (true≢false (sym two))
 second_word f (Log log (Event origin tag input value)) fits two = absurd (true≢false (sym two))
 second_word f (Log log (Withdraw origin tag)) fits two = absurd (true≢false (sym two))
 second_word f (Log log (Announce origin tag events withdrawn)) fits two = absurd (true≢false (sym two))
+second_word f (Log log (Joint tag events withdrawn)) fits two = absurd (true≢false (sym two))
 second_word f (Board count frozen) fits two = absurd (true≢false (sym two))
 second_word f (Row out) fits two = absurd (true≢false (sym two))
 second_word f NoRow fits two = absurd (true≢false (sym two))
@@ -212,6 +215,7 @@ counted_words f (Breach log broken) fits is = absurd (true≢false (sym is))
 counted_words f (Log log (Event origin tag input value)) fits is = absurd (true≢false (sym is))
 counted_words f (Log log (Withdraw origin tag)) fits is = absurd (true≢false (sym is))
 counted_words f (Log log (Announce origin tag events withdrawn)) fits is = absurd (true≢false (sym is))
+counted_words f (Log log (Joint tag events withdrawn)) fits is = absurd (true≢false (sym is))
 counted_words f (Board count frozen) fits is = absurd (true≢false (sym is))
 counted_words f (Row out) fits is = absurd (true≢false (sym is))
 counted_words f NoRow fits is = absurd (true≢false (sym is))

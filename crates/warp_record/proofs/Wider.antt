@@ -1,17 +1,17 @@
 -- What is in range in a form is in range in each wider one, and so in the widest.
-use Rattle.std.proofs.Common.{ℕ, ◌<◌, ◌≤◌, arith}
-use Rattle.warp_tag.specs.Limits.{last_microstep, last_time, most_origins, most_records, most_rows, wider, widest}
+use Rattle.std.proofs.Common.{◌≡◌, ℕ, ◌<◌, ◌≤◌, true, arith}
+use Rattle.warp_tag.specs.Limits.{has_joint, last_microstep, last_time, most_inputs, most_origins, most_outputs, most_records, most_rows, wider, widest}
 use Rattle.warp_tag.specs.Moment.{Moment, IsTagOf}
 use Rattle.warp_tag.specs.declared.form.Form.{Form}
-use Rattle.warp_tag.specs.declared.form.Form.TheVariants.{One, Two, Three}
+use Rattle.warp_tag.specs.declared.form.Form.TheVariants.{One, Two, Three, Four}
 use Rattle.warp_tag.specs.declared.out.Out.{Out}
-use Rattle.warp_tag.proofs.Forms.{microstep_kept, microstep_widens, origins_kept, origins_widen, records_kept, records_widen, rows_widen, time_widens}
+use Rattle.warp_tag.proofs.Forms.{joint_kept, joint_widens, microstep_kept, microstep_widens, origins_kept, origins_widen, records_kept, records_widen, rows_widen, time_widens}
 use Rattle.warp_record.specs.declared.line.Line.{Line}
 use Rattle.warp_record.specs.declared.line.Line.TheVariants as line
 use Rattle.warp_record.specs.declared.line.Query.{Query}
 use Rattle.warp_record.specs.declared.line.Query.TheVariants as query
 use Rattle.warp_record.specs.declared.record.Record.{Record}
-use Rattle.warp_record.specs.declared.record.Record.TheVariants.{Event, Withdraw, Announce}
+use Rattle.warp_record.specs.declared.record.Record.TheVariants.{Event, Withdraw, Announce, Joint}
 use Rattle.warp_record.specs.declared.reply.Reply.{Reply}
 use Rattle.warp_record.specs.declared.reply.Reply.TheVariants.{Taken, Known, Refused, Var, Outputs, Output, Nothing, Horizon, Released, Lost, Breach, Log, Collected, Board, Row, NoRow}
 use Rattle.warp_record.specs.Line.{IsLine, IsQuery}
@@ -25,6 +25,21 @@ record IsWithin (f g : Form) : Type 0 where
   pub origins : most_origins f ≤ most_origins g
   pub records : most_records f ≤ most_records g
   pub rows : most_rows f ≤ most_rows g
+  pub inputs : most_inputs f ≤ most_inputs g
+  pub outputs : most_outputs f ≤ most_outputs g
+  pub joint : has_joint f ≡ true → has_joint g ≡ true
+
+inputs_widen : (f : Form) → most_inputs f ≤ most_inputs widest
+inputs_widen One = omega arith
+inputs_widen Two = omega arith
+inputs_widen Three = omega arith
+inputs_widen Four = omega arith
+
+outputs_widen : (f : Form) → most_outputs f ≤ most_outputs widest
+outputs_widen One = omega arith
+outputs_widen Two = omega arith
+outputs_widen Three = omega arith
+outputs_widen Four = omega arith
 
 in_widest : (f : Form) → IsWithin f widest
 in_widest f = record {
@@ -33,6 +48,9 @@ in_widest f = record {
   origins = origins_widen f;
   records = records_widen f;
   rows = rows_widen f;
+  inputs = inputs_widen f;
+  outputs = outputs_widen f;
+  joint = joint_widens f;
 }
 
 time_kept : (f g : Form) → last_time f ≤ last_time (wider g f)
@@ -40,18 +58,60 @@ time_kept f One = omega arith
 time_kept One Two = omega arith
 time_kept Two Two = omega arith
 time_kept Three Two = omega arith
+time_kept Four Two = omega arith
 time_kept One Three = omega arith
 time_kept Two Three = omega arith
 time_kept Three Three = omega arith
+time_kept Four Three = omega arith
+time_kept One Four = omega arith
+time_kept Two Four = omega arith
+time_kept Three Four = omega arith
+time_kept Four Four = omega arith
 
 rows_kept : (f g : Form) → most_rows f ≤ most_rows (wider g f)
 rows_kept f One = omega arith
 rows_kept One Two = omega arith
 rows_kept Two Two = omega arith
 rows_kept Three Two = omega arith
+rows_kept Four Two = omega arith
 rows_kept One Three = omega arith
 rows_kept Two Three = omega arith
 rows_kept Three Three = omega arith
+rows_kept Four Three = omega arith
+rows_kept One Four = omega arith
+rows_kept Two Four = omega arith
+rows_kept Three Four = omega arith
+rows_kept Four Four = omega arith
+
+inputs_kept : (f g : Form) → most_inputs f ≤ most_inputs (wider g f)
+inputs_kept f One = omega arith
+inputs_kept One Two = omega arith
+inputs_kept Two Two = omega arith
+inputs_kept Three Two = omega arith
+inputs_kept Four Two = omega arith
+inputs_kept One Three = omega arith
+inputs_kept Two Three = omega arith
+inputs_kept Three Three = omega arith
+inputs_kept Four Three = omega arith
+inputs_kept One Four = omega arith
+inputs_kept Two Four = omega arith
+inputs_kept Three Four = omega arith
+inputs_kept Four Four = omega arith
+
+outputs_kept : (f g : Form) → most_outputs f ≤ most_outputs (wider g f)
+outputs_kept f One = omega arith
+outputs_kept One Two = omega arith
+outputs_kept Two Two = omega arith
+outputs_kept Three Two = omega arith
+outputs_kept Four Two = omega arith
+outputs_kept One Three = omega arith
+outputs_kept Two Three = omega arith
+outputs_kept Three Three = omega arith
+outputs_kept Four Three = omega arith
+outputs_kept One Four = omega arith
+outputs_kept Two Four = omega arith
+outputs_kept Three Four = omega arith
+outputs_kept Four Four = omega arith
 
 in_wider : (f g : Form) → IsWithin f (wider g f)
 in_wider f g = record {
@@ -60,6 +120,9 @@ in_wider f g = record {
   origins = origins_kept g f;
   records = records_kept g f;
   rows = rows_kept f g;
+  inputs = inputs_kept f g;
+  outputs = outputs_kept f g;
+  joint = joint_kept g f;
 }
 
 module _ (f g : Form) (within : IsWithin f g) where
@@ -96,7 +159,7 @@ module _ (f g : Form) (within : IsWithin f g) where
   record_in (Event origin tag input value) fits = record {
     origin_fits = origin_widens origin fits.origin_fits;
     tag_fits = tag_widens tag fits.tag_fits;
-    input_fits = fits.input_fits;
+    input_fits = (let inputs = within.inputs in omega (arith, fits.input_fits, inputs));
     value_fits = fits.value_fits;
   }
   record_in (Withdraw origin tag) fits = record {
@@ -105,6 +168,12 @@ module _ (f g : Form) (within : IsWithin f g) where
   }
   record_in (Announce origin tag events withdrawn) fits = record {
     origin_fits = origin_widens origin fits.origin_fits;
+    tag_fits = tag_widens tag fits.tag_fits;
+    events_fit = length_widens events fits.events_fit;
+    withdrawn_fit = length_widens withdrawn fits.withdrawn_fit;
+  }
+  record_in (Joint tag events withdrawn) fits = record {
+    form_has = within.joint fits.form_has;
     tag_fits = tag_widens tag fits.tag_fits;
     events_fit = length_widens events fits.events_fit;
     withdrawn_fit = length_widens withdrawn fits.withdrawn_fit;
@@ -118,6 +187,7 @@ module _ (f g : Form) (within : IsWithin f g) where
   query_widens query.Released fits = fits
   query_widens query.Lost fits = fits
   query_widens (query.Breach origin) fits = origin_widens origin fits
+  query_widens query.JointBreach fits = within.joint fits
   query_widens (query.Log place) fits = fits
 
   line_in : (said : Line) → IsLine f said → IsLine g said
@@ -129,7 +199,7 @@ module _ (f g : Form) (within : IsWithin f g) where
   out_widens : (out : Out) → IsOut f out → IsOut g out
   out_widens out fits = record {
     tag_fits = tag_widens out.tag fits.tag_fits;
-    port_fits = fits.port_fits;
+    port_fits = (let outputs = within.outputs in omega (arith, fits.port_fits, outputs));
     value_fits = fits.value_fits;
   }
 

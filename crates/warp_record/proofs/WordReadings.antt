@@ -3,8 +3,9 @@ use Rattle.std.proofs.Common.{◌≡◌, ℕ, ◌+◌, ◌-◌, ◌<◌, ◌^◌
 use Rattle.std.specs.Fmt.{signed_decimal}
 use Rattle.std.specs.Str.{bytes_eq}
 use Rattle.std.specs.Str.Parse.{digits_value}
-use Rattle.std.proofs.lemmas.Bool.{ne_eqb}
+use Rattle.std.proofs.lemmas.Bool.{false_from_ne_true, ne_eqb}
 use Rattle.std.proofs.lemmas.Fmt.{decimal_is_IsNumeral}
+use Rattle.std.proofs.lemmas.Slice.Eq.{bytes_eq-Decides}
 use Rattle.std.proofs.lemmas.Str.Parse.{digit_at}
 use Rattle.warp_tag.specs.Limits.{widest}
 use Rattle.warp_tag.specs.Moment.{Moment, IsInRange}
@@ -14,7 +15,7 @@ use Rattle.warp_record.specs.declared.line.Line.TheVariants as line
 use Rattle.warp_record.specs.declared.line.Look.TheVariants as look
 use Rattle.warp_record.specs.declared.line.Query.TheVariants as query
 use Rattle.warp_record.specs.declared.record.Record.{Record}
-use Rattle.warp_record.specs.declared.record.Record.TheVariants.{Event, Withdraw, Announce}
+use Rattle.warp_record.specs.declared.record.Record.TheVariants.{Event, Withdraw, Announce, Joint}
 use Rattle.warp_record.specs.declared.reply.Refusal.{Refusal}
 use Rattle.warp_record.specs.declared.reply.Refusal.TheVariants.{Syntax, NoOrigin, PastStop, NoInput, NotYours, NoVar, LogFull, NoMemory, TooLong, Busy, NoBoard}
 use Rattle.warp_record.specs.declared.reply.Reply.{Reply}
@@ -75,7 +76,18 @@ abbrev pub record_said : List (List ℕ) → Record
 record_said words =
     if is_first words (codes "event") then Event (number_at words 1) (tag_at words 2) (number_at words 4) (signed_value (get_or words 5 []))
     else (if is_first words (codes "withdraw") then Withdraw (number_at words 1) (tag_at words 2)
-    else Announce (number_at words 1) (tag_at words 2) (number_at words 4) (number_at words 5))
+    else (if bytes_eq (get_or words 1 []) (codes "*") then Joint (tag_at words 2) (number_at words 4) (number_at words 5)
+    else Announce (number_at words 1) (tag_at words 2) (number_at words 4) (number_at words 5)))
+
+-- no number is written so
+pub no_star : (n : ℕ) → n < 2 ^ 64 → decimal n ≡ codes "*" → ⊥
+no_star n fits is =
+    let numeral = decimal_is_IsNumeral n fits in
+    let range = digit_at (decimal n) 0 numeral.0.1 numeral.0.0 in
+    omega (arith, range.0, ap (λ (word : List ℕ). get_or word 0 0) is)
+
+pub not_star : (n : ℕ) → n < 2 ^ 64 → bytes_eq (decimal n) (codes "*") ≡ false
+not_star n fits = false_from_ne_true (bytes_eq (decimal n) (codes "*")) (λ h. no_star n fits ((bytes_eq-Decides (decimal n) (codes "*")).0 h))
 
 -- a record is what its words say
 pub record_back : («record» : Record) → IsRecord widest «record» → record_said (record_words «record») ≡ «record»
@@ -90,7 +102,14 @@ record_back (Withdraw origin tag) fits =
     rw (value origin (omega (arith, fits.origin_fits)), tag_said tag _ _ fits.tag_fits refl refl) refl
 record_back (Announce origin tag events withdrawn) fits =
     rw (
+      not_star origin (omega (arith, fits.origin_fits)),
       value origin (omega (arith, fits.origin_fits)),
+      tag_said tag _ _ fits.tag_fits refl refl,
+      value events (omega (arith, fits.events_fit)),
+      value withdrawn (omega (arith, fits.withdrawn_fit)),
+    ) refl
+record_back (Joint tag events withdrawn) fits =
+    rw (
       tag_said tag _ _ fits.tag_fits refl refl,
       value events (omega (arith, fits.events_fit)),
       value withdrawn (omega (arith, fits.withdrawn_fit)),
@@ -105,7 +124,8 @@ line_said words =
     else (if is_first words (codes "horizon") then line.Ask query.Horizon
     else (if is_first words (codes "released") then line.Ask query.Released
     else (if is_first words (codes "lost") then line.Ask query.Lost
-    else (if is_first words (codes "breach") then line.Ask (query.Breach (number_at words 1))
+    else (if is_first words (codes "breach")
+    then (if bytes_eq (get_or words 1 []) (codes "*") then line.Ask query.JointBreach else line.Ask (query.Breach (number_at words 1)))
     else (if is_first words (codes "log") then line.Ask (query.Log (number_at words 1))
     else (if is_first words (codes "collect") then line.Collect
     else (if is_first words (codes "board") then line.Look look.Board
@@ -117,13 +137,16 @@ line_back (line.Put (Event origin tag input z)) fits = ap (λ (r : Record). line
 line_back (line.Put (Withdraw origin tag)) fits = ap (λ (r : Record). line.Put r) (record_back (Withdraw origin tag) fits)
 line_back (line.Put (Announce origin tag events withdrawn)) fits =
     ap (λ (r : Record). line.Put r) (record_back (Announce origin tag events withdrawn) fits)
+line_back (line.Put (Joint tag events withdrawn)) fits =
+    ap (λ (r : Record). line.Put r) (record_back (Joint tag events withdrawn) fits)
 line_back (line.Ask (query.Var n)) fits = rw (value n (omega (arith, fits))) refl
 line_back (line.Ask query.Outputs) fits = refl
 line_back (line.Ask (query.Output n)) fits = rw (value n (omega (arith, fits))) refl
 line_back (line.Ask query.Horizon) fits = refl
 line_back (line.Ask query.Released) fits = refl
 line_back (line.Ask query.Lost) fits = refl
-line_back (line.Ask (query.Breach n)) fits = rw (value n (omega (arith, fits))) refl
+line_back (line.Ask (query.Breach n)) fits = rw (not_star n (omega (arith, fits)), value n (omega (arith, fits))) refl
+line_back (line.Ask query.JointBreach) fits = refl
 line_back (line.Ask (query.Log n)) fits = rw (value n (omega (arith, fits))) refl
 line_back line.Collect fits = refl
 line_back (line.Look look.Board) fits = refl

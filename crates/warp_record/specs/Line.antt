@@ -1,11 +1,11 @@
 -- The lines that come in, their ranges by form, and the one spelling of each.
-use Rattle.std.specs.Prelude.{ℕ, ◌<◌, ◌≤◌, List, [], ◌∷◌, codes, decimal}
+use Rattle.std.specs.Prelude.{ℕ, ◌<◌, ◌≤◌, IsTrue, List, [], ◌∷◌, codes, decimal}
 use Rattle.std.specs.List.{join_with_byte}
-use Rattle.warp_tag.specs.Limits.{last_number, most_origins}
+use Rattle.warp_tag.specs.Limits.{has_joint, last_number, most_origins}
 use Rattle.warp_tag.specs.declared.form.Form.{Form}
 use Rattle.warp_record.specs.Record.{IsRecord, record_words}
 use Rattle.warp_record.specs.declared.line.Query.{Query}
-use Rattle.warp_record.specs.declared.line.Query.TheVariants.{Var, Outputs, Output, Horizon, Released, Lost, Breach, Log}
+use Rattle.warp_record.specs.declared.line.Query.TheVariants.{Var, Outputs, Output, Horizon, Released, Lost, Breach, JointBreach, Log}
 use Rattle.warp_record.specs.declared.line.Look.{Look}
 use Rattle.warp_record.specs.declared.line.Look.TheVariants.{Board, Row}
 use Rattle.warp_record.specs.declared.line.Line.{Line}
@@ -20,6 +20,7 @@ IsQuery f Horizon = Unit {0}
 IsQuery f Released = Unit {0}
 IsQuery f Lost = Unit {0}
 IsQuery f (Breach origin) = origin < most_origins f
+IsQuery f JointBreach = IsTrue (has_joint f)
 IsQuery f (Log place) = place ≤ last_number
 
 -- the ranges of a look at the board
@@ -43,6 +44,7 @@ query_words Horizon = codes "horizon" ∷ []
 query_words Released = codes "released" ∷ []
 query_words Lost = codes "lost" ∷ []
 query_words (Breach origin) = codes "breach" ∷ decimal origin ∷ []
+query_words JointBreach = codes "breach" ∷ codes "*" ∷ []
 query_words (Log place) = codes "log" ∷ decimal place ∷ []
 
 -- the words of a look at the board

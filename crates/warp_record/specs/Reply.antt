@@ -38,7 +38,7 @@ IsLength f log = log ≤ most_records f
 -- the ranges of an output in a form
 pub record IsOut (f : Form) (out : Out) : Type 0 where
   pub tag_fits : IsTagOf f out.tag
-  pub port_fits : out.port < most_outputs
+  pub port_fits : out.port < most_outputs f
   pub value_fits : FitsSigned w64 out.value
 
 -- the ranges of a reply in a form

@@ -28,7 +28,7 @@ pub use law::{
 };
 pub use line::{Line, Look, Query, read_line};
 pub use number::read_u32;
-pub use record::{LAST_INPUT, Record, read_record, write_record};
+pub use record::{Record, read_record, write_record};
 pub use reply::{Refusal, Reply, read_reply, write_reply, write_reply_line};
 pub use room::REPLY_ROOM;
 pub use split::{MOST_WORDS, is_keyword, split_words};

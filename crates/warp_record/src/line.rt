@@ -15,7 +15,7 @@ use crate::record::{Record, last_origin};
 use crate::record_text::{
     behind_announce, behind_event, behind_withdraw, read_announcement, read_event, read_withdrawal,
 };
-use crate::split::{is_keyword, split_words};
+use crate::split::{is_all, is_keyword, split_words};
 use warp_tag::Form;
 
 /// The first word of a query for a variable.
@@ -59,6 +59,8 @@ pub enum Query {
     Lost,
     /// `breach O`: whether the origin, 0 to 31 in form One and 0 to 63 in the others, broke an announcement of its own.
     Breach(u32),
+    /// `breach *`, in form Four alone: whether a joint announcement is broken.
+    JointBreach,
     /// `log I`: the record at this place of the log, from 1.
     Log(u32),
 }
@@ -136,6 +138,36 @@ fn breach_of(form: Form, origin: u32) -> Option<Line>
     Some(Line::Ask(Query::Breach(origin)))
 }
 
+/// The line in range in this form whose words are this one and `*`; `None` where there is none.
+fn line_of_all(form: Form, word: &[u8]) -> Option<Line>
+    ensures found { IfSome result
+        (λ line. IsLine form line × (word.now ∷ codes "*" ∷ [] ≡ line_words line)) }
+    ensures none { IfNone result
+        ((line : Line) → IsLine form line → word.now ∷ codes "*" ∷ [] ≡ line_words line → ⊥) }
+{
+    if !form.has_joint() {
+        return None;
+    }
+    if !is_keyword(word, BREACH) {
+        return None;
+    }
+    Some(Line::Ask(Query::JointBreach))
+}
+
+/// The line in range in this form whose words are these two; `None` where there is none.
+fn line_of_two(form: Form, word: &[u8], other: &[u8]) -> Option<Line>
+    ensures found { IfSome result
+        (λ line. IsLine form line × (word.now ∷ other.now ∷ [] ≡ line_words line)) }
+    ensures none { IfNone result
+        ((line : Line) → IsLine form line → word.now ∷ other.now ∷ [] ≡ line_words line → ⊥) }
+{
+    if is_all(other) {
+        return line_of_all(form, word);
+    }
+    let number = read_index(other)?;
+    line_of_number(form, word, number)
+}
+
 /// The line in range in this form whose words are this one and this number; `None` where there is none.
 fn line_of_number(form: Form, word: &[u8], number: u32) -> Option<Line>
     ensures found { IfSome result
@@ -167,7 +199,7 @@ fn line_of(form: Form, words: &[&[u8]]) -> Option<Line>
 {
     match words {
         [word] => line_of_word(word),
-        [word, number] => line_of_number(form, word, read_index(number)?),
+        [word, other] => line_of_two(form, word, other),
         _ => None,
     }
 }

@@ -1,8 +1,9 @@
-//! The order of records: by tag, then by origin, then by what else they say. Maps keep records in it.
+//! The order of records: by tag, then by origin, then by what else they say. A joint announcement stands
+//! where one of origin 0 would, and its kind tells the two apart. Maps keep records in it.
 ghost use Rattle.std.specs.Prelude.{◌≡◌};
 ghost use Rattle.std.proofs.Common.{refl};
 ghost use Rattle.std.specs.Ordering.{as_partial_cmp};
-ghost use Rattle.warp_record.specs.Order.{cmp_at_tag, first_of, kind_of, record_cmp, second_of};
+ghost use Rattle.warp_record.specs.Order.{cmp_at_tag, first_of, kind_of, origin_or_first, record_cmp, second_of};
 ghost use Rattle.warp_record.specs.Order.{record_partial, record_total, same_by_cmp};
 
 use crate::record::Record;
@@ -22,7 +23,19 @@ fn numbers(record: &Record) -> (u32, u32, i64)
             withdrawn,
             ..
         } => (2, events.get(), i64::from(withdrawn.get())),
+        Record::Joint {
+            events,
+            withdrawn,
+            ..
+        } => (3, events.get(), i64::from(withdrawn.get())),
     }
+}
+
+/// Whose it is, where it is one origin's, and else 0.
+fn origin_or_first(record: &Record) -> u32
+    ensures { result ≡ origin_or_first «record».now }
+{
+    record.origin().unwrap_or(0)
 }
 
 /// The order of two records of one tag.
@@ -32,7 +45,7 @@ fn cmp_at_tag(one: &Record, other: &Record) -> Ordering
     let (kind, first, second) = numbers(one);
     let (other_kind, other_first, other_second) = numbers(other);
     let numbers = first.cmp(&other_first).then(second.cmp(&other_second));
-    let origins = one.origin().cmp(&other.origin());
+    let origins = origin_or_first(one).cmp(&origin_or_first(other));
     origins.then(kind.cmp(&other_kind).then(numbers))
 }
 

@@ -1,10 +1,10 @@
 //! Records: what an origin has to say, and the one spelling of each, read and written.
-ghost use Rattle.std.specs.Prelude.{◌≡◌, ℕ, ℤ, ◌+◌, ◌<◌, ◌≤◌, [], ◌∷◌, ◌++◌, IfSome, IfNone, FitsSigned, decimal, map};
+ghost use Rattle.std.specs.Prelude.{◌≡◌, ℕ, ℤ, ◌+◌, ◌<◌, ◌≤◌, [], ◌∷◌, ◌++◌, IfSome, IfNone, FitsSigned, codes, decimal, map, true};
 ghost use Rattle.std.specs.Prelude.{vec_len, vec_capacity};
 ghost use Rattle.std.specs.Fmt.{signed_decimal};
 ghost use Rattle.std.specs.Int.{w64};
 ghost use Rattle.std.specs.List.{join_with_byte};
-ghost use Rattle.warp_tag.specs.Limits.{most_inputs, most_origins, most_records};
+ghost use Rattle.warp_tag.specs.Limits.{has_joint, most_inputs, most_origins, most_records};
 ghost use Rattle.warp_tag.specs.Moment.{Moment, IsTagOf};
 ghost use Rattle.warp_record.specs.declared.record.Record.{Record};
 ghost use Rattle.warp_record.specs.Record.{IsRecord, record_words, record_spelling, tag_words};
@@ -12,11 +12,8 @@ ghost use Rattle.warp_record.specs.Record.{IsRecord, record_words, record_spelli
 use crate::count::Count;
 use crate::number::{append, append_number, append_u32, read_int, read_number, read_u32};
 use crate::room::{RECORD_ROOM, REPLY_ROOM};
-use crate::split::is_keyword;
+use crate::split::{is_all, is_keyword};
 use warp_tag::{Form, Tag};
-
-/// The last program input that a line can name.
-pub const LAST_INPUT: u32 = 63;
 
 /// The first word of an event.
 pub(crate) const EVENT: &[u8] = b"event";
@@ -27,6 +24,9 @@ pub(crate) const WITHDRAW: &[u8] = b"withdraw";
 /// The first word of an announcement.
 pub(crate) const ANNOUNCE: &[u8] = b"announce";
 
+/// The first two words of a joint announcement.
+pub(crate) const JOINTLY: &[u8] = b"announce *";
+
 /// What an origin has to say. A name is an origin and a tag.
 #[derive(Clone, Copy, Debug, PartialEq, Eq, Hash)]
 pub enum Record {
@@ -36,7 +36,7 @@ pub enum Record {
         origin: u32,
         /// When.
         tag: Tag,
-        /// The number of the program input, 0 to `LAST_INPUT`.
+        /// The number of the program input, 0 to 63, in form Four to 255.
         input: u32,
         /// The input's value.
         value: i64,
@@ -60,19 +60,30 @@ pub enum Record {
         /// How many names have a withdrawal.
         withdrawn: Count,
     },
+    /// A joint announcement `announce * T M E W`, in form Four alone: before the tag all origins together have so many
+    /// names with an event and so many with a withdrawal, and will add none.
+    Joint {
+        /// Before which tag.
+        tag: Tag,
+        /// How many names have an event, withdrawn or not.
+        events: Count,
+        /// How many names have a withdrawal.
+        withdrawn: Count,
+    },
 }
 
 impl Record {
     ghost use Rattle.warp_record.specs.Record.{origin_of, tag_of};
 
-    /// Whose it is.
-    pub fn origin(&self) -> u32
+    /// Whose it is; `None` for a joint announcement, which is no single origin's.
+    pub fn origin(&self) -> Option<u32>
         ensures { result ≡ origin_of self.now }
     {
         match *self {
-            Record::Event { origin, .. } => origin,
-            Record::Withdraw { origin, .. } => origin,
-            Record::Announce { origin, .. } => origin,
+            Record::Event { origin, .. } => Some(origin),
+            Record::Withdraw { origin, .. } => Some(origin),
+            Record::Announce { origin, .. } => Some(origin),
+            Record::Joint { .. } => None,
         }
     }
 
@@ -84,6 +95,7 @@ impl Record {
             Record::Event { tag, .. } => tag,
             Record::Withdraw { tag, .. } => tag,
             Record::Announce { tag, .. } => tag,
+            Record::Joint { tag, .. } => tag,
         }
     }
 }
@@ -94,6 +106,14 @@ pub(crate) fn last_origin(form: Form) -> u32
     ensures { result + 1 ≡ most_origins form }
 {
     form.most_origins() - 1
+}
+
+/// The last program input that a line of this form can name.
+#[inline(always)]
+pub(crate) fn last_input(form: Form) -> u32
+    ensures { result + 1 ≡ most_inputs form }
+{
+    form.most_inputs() - 1
 }
 
 /// The tag in range in this form whose words these are.
@@ -116,17 +136,17 @@ fn read_count(form: Form, word: &[u8]) -> Option<Count>
     Count::new(read_u32(word, form.most_records())?)
 }
 
-/// The input and the value whose words these are.
-fn read_value(words: &[&[u8]]) -> Option<(u32, i64)>
-    ensures found { IfSome result (λ given. (given.0 < most_inputs) × FitsSigned w64 given.1 ×
+/// The input and the value in range in this form whose words these are.
+fn read_value(form: Form, words: &[&[u8]]) -> Option<(u32, i64)>
+    ensures found { IfSome result (λ given. (given.0 < most_inputs form) × FitsSigned w64 given.1 ×
         (map (λ word. word.now) words.now ≡ decimal given.0 ∷ signed_decimal given.1 ∷ [])) }
-    ensures none { IfNone result ((input : ℕ) (value : ℤ) → input < most_inputs → FitsSigned w64 value →
+    ensures none { IfNone result ((input : ℕ) (value : ℤ) → input < most_inputs form → FitsSigned w64 value →
         map (λ word. word.now) words.now ≡ decimal input ∷ signed_decimal value ∷ [] → ⊥) }
 {
     let [input, value] = words else {
         return None;
     };
-    let input = read_u32(input, LAST_INPUT)?;
+    let input = read_u32(input, last_input(form))?;
     let value = read_int(value)?;
     Some((input, value))
 }
@@ -146,6 +166,47 @@ fn read_counts(form: Form, words: &[&[u8]]) -> Option<(Count, Count)>
     Some((events, withdrawn))
 }
 
+/// The joint announcement in range in this form whose words behind the first two are these.
+fn joint_of(form: Form, time: &[u8], micro: &[u8], operands: &[&[u8]]) -> Option<Record>
+    requires { has_joint form ≡ true }
+    ensures found { IfSome result (λ said. IsRecord form said × (codes "announce" ∷ codes "*" ∷ time.now ∷ micro.now
+        ∷ map (λ word. word.now) operands.now ≡ record_words said)) }
+    ensures none { IfNone result ((tag : Moment) (events withdrawn : ℕ) → IsTagOf form tag →
+        events ≤ most_records form → withdrawn ≤ most_records form → time.now ≡ decimal tag.time →
+        micro.now ≡ decimal tag.microstep →
+        map (λ word. word.now) operands.now ≡ decimal events ∷ decimal withdrawn ∷ [] → ⊥) }
+{
+    let tag = read_tag(form, time, micro)?;
+    let (events, withdrawn) = read_counts(form, operands)?;
+    Some(Record::Joint {
+        tag,
+        events,
+        withdrawn,
+    })
+}
+
+/// The joint announcement in range in this form whose words these are, `*` behind the first; `None` where there is none.
+fn read_joint(
+    form: Form,
+    word: &[u8],
+    time: &[u8],
+    micro: &[u8],
+    operands: &[&[u8]],
+) -> Option<Record>
+    ensures found { IfSome result (λ said. IsRecord form said ×
+        (word.now ∷ codes "*" ∷ time.now ∷ micro.now ∷ map (λ word. word.now) operands.now ≡ record_words said)) }
+    ensures none { IfNone result ((said : Record) → IsRecord form said →
+        word.now ∷ codes "*" ∷ time.now ∷ micro.now ∷ map (λ word. word.now) operands.now ≡ record_words said → ⊥) }
+{
+    if !form.has_joint() {
+        return None;
+    }
+    if !is_keyword(word, ANNOUNCE) {
+        return None;
+    }
+    joint_of(form, time, micro, operands)
+}
+
 /// The record in range in this form whose words these are; `None` where there is none.
 pub fn read_record(form: Form, words: &[&[u8]]) -> Option<Record>
     ensures found { IfSome result
@@ -156,10 +217,13 @@ pub fn read_record(form: Form, words: &[&[u8]]) -> Option<Record>
     let [word, origin, time, micro, operands @ ..] = words else {
         return None;
     };
+    if is_all(origin) {
+        return read_joint(form, word, time, micro, operands);
+    }
     let origin = read_u32(origin, last_origin(form))?;
     let tag = read_tag(form, time, micro)?;
     if is_keyword(word, EVENT) {
-        let (input, value) = read_value(operands)?;
+        let (input, value) = read_value(form, operands)?;
         Some(Record::Event {
             origin,
             tag,
@@ -194,6 +258,29 @@ pub(crate) fn append_tag(out: &mut Vec<u8>, tag: Tag)
 {
     append_u32(out, tag.time() as u32);
     append_u32(out, tag.micro());
+}
+
+/// Appends the counts of a joint announcement, a space in front of each, for which there is room.
+fn append_counts(out: &mut Vec<u8>, events: Count, withdrawn: Count)
+    requires { vec_len out.old + 24 ≤ vec_capacity out.old }
+    ensures items { out.new.items ≡ out.old.items ++ 32 ∷ decimal events ++ 32 ∷ decimal withdrawn }
+    ensures len { vec_len out.new ≤ vec_len out.old + 24 }
+    ensures capacity { vec_capacity out.new ≡ vec_capacity out.old }
+{
+    append_u32(out, events.get());
+    append_u32(out, withdrawn.get());
+}
+
+/// Appends the spelling of a joint announcement, for which there is room.
+fn append_joint(out: &mut Vec<u8>, tag: Tag, events: Count, withdrawn: Count)
+    requires { vec_len out.old + RECORD_ROOM ≤ vec_capacity out.old }
+    ensures items { out.new.items ≡ out.old.items ++ record_spelling (Record.Joint tag events withdrawn) }
+    ensures len { vec_len out.new ≤ vec_len out.old + RECORD_ROOM }
+    ensures capacity { vec_capacity out.new ≡ vec_capacity out.old }
+{
+    append(out, JOINTLY);
+    append_tag(out, tag);
+    append_counts(out, events, withdrawn);
 }
 
 /// Appends the record's spelling, for which there is room.
@@ -233,6 +320,11 @@ pub(crate) fn append_record(out: &mut Vec<u8>, record: &Record)
             append_number(out, events.get());
             append_number(out, withdrawn.get());
         }
+        Record::Joint {
+            tag,
+            events,
+            withdrawn,
+        } => append_joint(out, tag, events, withdrawn),
     }
 }
 

@@ -37,9 +37,6 @@ const NONE: &[u8] = b"none";
 
 const COLLECTED: &[u8] = b"collected";
 
-/// The last program output that a reply can name.
-const LAST_OUTPUT: u32 = 63;
-
 /// Why a line was refused. The numbers 1 to 11 stand in this order.
 #[derive(Clone, Copy, Debug, PartialEq, Eq)]
 pub enum Refusal {
@@ -231,7 +228,7 @@ fn read_output(form: Form, words: &[&[u8]]) -> Option<Out>
         return None;
     };
     let tag = read_tag(form, time, micro)?;
-    let port = read_u32(port, LAST_OUTPUT)?;
+    let port = read_u32(port, form.most_outputs() - 1)?;
     let value = read_int(value)?;
     Some(Out { tag, port, value })
 }

@@ -1,5 +1,5 @@
 //! Cutting a text into its words: what stands between its spaces.
-ghost use Rattle.std.specs.Prelude.{◌≡◌, ◌<◌, ◌↔◌, [], ◌∷◌, ◌++◌, IfSome, IfNone, OnSome, IsTrue, length, map};
+ghost use Rattle.std.specs.Prelude.{◌≡◌, ◌<◌, ◌↔◌, [], ◌∷◌, ◌++◌, IfSome, IfNone, OnSome, IsTrue, codes, length, map};
 ghost use Rattle.std.specs.List.{slice_split};
 ghost use Rattle.warp_record.specs.Number.{is_space};
 
@@ -33,6 +33,13 @@ pub fn split_words(bytes: &[u8]) -> Option<ArrayVec<&[u8], MOST_WORDS>>
     }
     push_word(&mut words, &bytes[start..])?;
     Some(words)
+}
+
+/// Whether the word stands for all origins together: `*`.
+pub fn is_all(word: &[u8]) -> bool
+    ensures { IsTrue result ↔ (word.now ≡ codes "*") }
+{
+    is_keyword(word, b"*")
 }
 
 /// Whether the word is this keyword.

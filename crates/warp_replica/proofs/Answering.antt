@@ -5,7 +5,7 @@ use Rattle.std.specs.Option.{option_map, unwrap_or}
 use Rattle.std.proofs.lemmas.Bool.{le-ltb}
 use Rattle.std.proofs.lemmas.Bool.Decides.{Decides-ltb, same_from_decides}
 use Rattle.std.proofs.lemmas.Option.{get_or_from_slice_get, slice_get-get_or, slice_get_within}
-use Rattle.warp_tag.specs.Limits.{most_outputs}
+use Rattle.warp_tag.specs.Limits.{has_joint, most_outputs, widest}
 use Rattle.warp_tag.specs.Moment.{Moment}
 use Rattle.warp_tag.specs.Table.{Event, live}
 use Rattle.warp_step.specs.Program.{Program}
@@ -22,6 +22,7 @@ use Rattle.warp_record.specs.declared.line.Query.TheVariants as query
 use Rattle.warp_record.specs.declared.reply.Refusal.TheVariants.{NoOrigin, NoVar}
 use Rattle.warp_record.specs.declared.reply.Reply.TheVariants as reply
 use Rattle.warp_table.specs.Announced.{IsBroken, IsHorizon}
+use Rattle.warp_table.specs.Joint.{IsBrokenJointly}
 use Rattle.warp_table.specs.Log.{EachOnce, IsAt}
 use Rattle.warp_table.specs.Records.{set_of}
 use Rattle.warp_table.specs.LogNames.{table_of}
@@ -46,6 +47,7 @@ module _ (P : Program) (records : List Record) (done : List Row) (log : ℕ) (on
     horizon = announced.horizon;
     released = released_of announced.horizon (outputs_of done);
     broken = announced.broken;
+    broken_jointly = announced.broken_jointly;
   }
 
   pub are_answers : AreAnswers P (set_of records) answers
@@ -60,6 +62,7 @@ module _ (P : Program) (records : List Record) (done : List Row) (log : ℕ) (on
     horizon = announced.reached;
     released = refl;
     broken = announced.breaks;
+    broken_jointly = announced.breaks_jointly;
   }
 
   -- what a query gives: the reply by these answers
@@ -115,6 +118,22 @@ module _ (P : Program) (records : List Record) (done : List Row) (log : ℕ) (on
   pub gives_no_origin : (origin : ℕ) → P.origins ≤ origin → GivesQuery P records (query.Breach origin) (reply.Refused NoOrigin)
   gives_no_origin origin past = breach_at origin false (le-ltb origin P.origins past)
 
+  -- whether a joint announcement is broken, where the program has such, and that it has none
+  joint_breach_at : (has : Bool) → has_joint P.form ≡ has
+      → GivesQuery P records query.JointBreach (if has then reply.Breach log announced.broken_jointly else reply.Refused NoOrigin)
+  joint_breach_at has is =
+      subst (λ (b : Bool). GivesQuery P records query.JointBreach (if b then reply.Breach log announced.broken_jointly else reply.Refused NoOrigin))
+      is (gives query.JointBreach)
+
+  pub gives_joint_breach : (broken : Bool) → has_joint P.form ≡ true → (IsTrue broken ↔ IsBrokenJointly (set_of records))
+      → GivesQuery P records query.JointBreach (reply.Breach log broken)
+  gives_joint_breach broken has breaks =
+      subst (λ (b : Bool). GivesQuery P records query.JointBreach (reply.Breach log b))
+      (same_from_decides announced.broken_jointly broken announced.breaks_jointly breaks) (joint_breach_at true has)
+
+  pub gives_no_joint : has_joint P.form ≡ false → GivesQuery P records query.JointBreach (reply.Refused NoOrigin)
+  gives_no_joint none = joint_breach_at false none
+
   -- how much was lost
   pub gives_lost : (state : Snapshot) → state ≡ state_at_end (start_state P) done → GivesQuery P records query.Lost (reply.Lost log state.lost)
   gives_lost state is =
@@ -136,7 +155,7 @@ gives_released P records log once long outs h =
 
 -- each output of a run is one of the outputs of the program, which are few
 pub few_outputs : (P : Program) (E : List Event) (done : List Row) → Run P E done → (i : ℕ) (out : Out) → IsTrue (is_valid P)
-    → slice_get (outputs_of done) i ≡ Some out → out.port < most_outputs
+    → slice_get (outputs_of done) i ≡ Some out → out.port < most_outputs widest
 few_outputs P E done run i out valid found =
     let within = output_within P E done i out run found in
     let limit = (validity P valid).limits.outputs in
@@ -144,7 +163,7 @@ few_outputs P E done run i out valid found =
 
 -- and so the ports of a list that has them all
 pub few_ports : (P : Program) (E : List Event) (done : List Row) → Run P E done → IsTrue (is_valid P) → (outs : List Out)
-    → outs ≡ outputs_of done → All (λ (out : Out). out.port < most_outputs) outs
+    → outs ≡ outputs_of done → All (λ (out : Out). out.port < most_outputs widest) outs
 few_ports P E done run valid outs is k d below =
     few_outputs P E done run k (get_or outs k d) valid (ap (λ (l : List Out). slice_get l k) (sym is) ∙ slice_get-get_or outs k d below)
 

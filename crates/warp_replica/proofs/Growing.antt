@@ -4,6 +4,7 @@ use Rattle.std.specs.Prelude.{slice_get, if◌then◌else◌}
 use Rattle.std.specs.Option.{option_map, unwrap_or}
 use Rattle.std.proofs.lemmas.Bool.Decides.{nat_tests}
 use Rattle.std.proofs.lemmas.List.{length-take-le}
+use Rattle.warp_tag.specs.Limits.{has_joint}
 use Rattle.warp_step.specs.Program.{Program}
 use Rattle.warp_step.specs.Events.{is_declared}
 use Rattle.warp_record.specs.declared.record.Record.{Record}
@@ -46,6 +47,7 @@ untold_query P records a query.Horizon place = refl
 untold_query P records a query.Released place = refl
 untold_query P records a query.Lost place = refl
 untold_query P records a (query.Breach origin) place = untold_if place (is_declared P origin) _ _ refl refl
+untold_query P records a query.JointBreach place = untold_if place (has_joint P.form) _ _ refl refl
 untold_query P records a (query.Log number) place = untold_found place _ _ (record_at records number) (λ _. refl) refl
 
 grows_told : (P : Program) (records : List Record) (said : Record) (result : Result Took Refusal) (after : List Record)

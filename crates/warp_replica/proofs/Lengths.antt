@@ -3,6 +3,7 @@ use Rattle.std.proofs.Common.{ℕ, List, length, refl, sym, subst, arith, length
 use Rattle.std.proofs.Common.{Err, Bool, true, false, inl, inr}
 use Rattle.std.specs.Prelude.{slice_get, if◌then◌else◌}
 use Rattle.std.specs.Option.{option_map, unwrap_or}
+use Rattle.warp_tag.specs.Limits.{has_joint}
 use Rattle.warp_step.specs.Program.{Program}
 use Rattle.warp_step.specs.Events.{is_declared}
 use Rattle.warp_record.specs.declared.record.Record.{Record}
@@ -39,6 +40,7 @@ says_query P records a query.Horizon = refl
 says_query P records a query.Released = refl
 says_query P records a query.Lost = refl
 says_query P records a (query.Breach origin) = says_if a.count (is_declared P origin) _ _ refl tt
+says_query P records a query.JointBreach = says_if a.count (has_joint P.form) _ _ refl tt
 says_query P records a (query.Log place) = says_found a.count _ _ (record_at records place) (λ _. refl) refl
 
 says_told : (P : Program) (records : List Record) (said : Record) (result : Result Took Refusal) (after : List Record)

@@ -1,7 +1,8 @@
 -- What a program raised to a wider form answers over a log.
-use Rattle.std.proofs.Common.{◌≡◌, inl, inr, ℕ, List, sym, ap, ◌∙◌}
+use Rattle.std.proofs.Common.{◌≡◌, inl, inr, ℕ, List, if◌then◌else◌, refl, sym, ap, ◌∙◌}
+use Rattle.warp_tag.specs.Limits.{has_joint, wider}
 use Rattle.warp_tag.specs.declared.form.Form.{Form}
-use Rattle.warp_tag.specs.declared.form.Form.TheVariants.{Two}
+use Rattle.warp_tag.specs.declared.form.Form.TheVariants.{One, Two, Three, Four}
 use Rattle.warp_step.specs.Program.{Program, raised, raised_to}
 use Rattle.warp_step.specs.Snapshot.{Snapshot}
 use Rattle.warp_step.specs.Run.{KeepsRun}
@@ -9,11 +10,12 @@ use Rattle.warp_step.proofs.RaisedRuns.{run_raised}
 use Rattle.warp_record.specs.declared.line.Query.{Query}
 use Rattle.warp_record.specs.declared.line.Query.TheVariants as query
 use Rattle.warp_record.specs.declared.record.Record.{Record}
+use Rattle.warp_record.specs.declared.reply.Refusal.TheVariants.{NoOrigin}
 use Rattle.warp_record.specs.declared.reply.Reply.{Reply}
 use Rattle.warp_record.specs.declared.reply.Reply.TheVariants as reply
 use Rattle.warp_table.specs.Records.{Records, set_of}
 use Rattle.warp_replica.specs.Answers.{Answers, AreAnswers}
-use Rattle.warp_replica.specs.Gives.{GivesQuery, KeepsReplies}
+use Rattle.warp_replica.specs.Gives.{GivesQuery, KeepsAsked, KeepsReplies, reply_to}
 use Rattle.warp_replica.proofs.Replies.{one_answer, one_reply}
 
 -- the loss that a reply tells
@@ -36,6 +38,7 @@ raised_answers f P S a h kept =
       horizon = record { some = h.horizon.some; least = h.horizon.least };
       released = h.released;
       broken = h.broken;
+      broken_jointly = h.broken_jointly;
     }
 
 -- where raising keeps the replies over a log, it keeps the run
@@ -48,27 +51,60 @@ run_kept f P records a h (inr lost) =
     let none : a.state.lost ≡ 0 = ap (λ (b : Answers). b.state.lost) (sym is) ∙ sym (ap lost_told told.2) in
     inr (ap (λ (s : Snapshot). s.lost) (sym h.state) ∙ none)
 
+-- by any answers the raised program replies as the old one does, where the query asks of what both have
+same_reply : (f : Form) (P : Program) (records : List Record) (a : Answers) (asked : Query) → KeepsAsked f P asked
+    → reply_to P records a asked ≡ reply_to (raised_to f P) records a asked
+same_reply f P records a (query.Var number) keeps = refl
+same_reply f P records a query.Outputs keeps = refl
+same_reply f P records a (query.Output number) keeps = refl
+same_reply f P records a query.Horizon keeps = refl
+same_reply f P records a query.Released keeps = refl
+same_reply f P records a query.Lost keeps = refl
+same_reply f P records a (query.Breach origin) keeps = refl
+same_reply f P records a query.JointBreach keeps =
+    ap (λ b. if b then reply.Breach a.count a.broken_jointly else reply.Refused NoOrigin) (sym keeps)
+same_reply f P records a (query.Log place) keeps = refl
+
 -- a reply to a query of the old program is one of the raised program
 pub raised_to_reply : (f : Form) (P : Program) (records : List Record) (asked : Query) (said : Reply)
-    → KeepsReplies f P records → GivesQuery P records asked said → GivesQuery (raised_to f P) records asked said
-raised_to_reply f P records asked said kept given =
+    → KeepsReplies f P records → KeepsAsked f P asked → GivesQuery P records asked said → GivesQuery (raised_to f P) records asked said
+raised_to_reply f P records asked said kept keeps given =
     let a = given.0 in
-    (a, raised_answers f P (set_of records) a given.1 (run_kept f P records a given.1 kept), given.2)
+    (a, raised_answers f P (set_of records) a given.1 (run_kept f P records a given.1 kept), given.2 ∙ same_reply f P records a asked keeps)
 
 -- and the only one
 pub raised_to_only : (f : Form) (P : Program) (records : List Record) (asked : Query) (said other : Reply)
-    → KeepsReplies f P records → GivesQuery P records asked said → GivesQuery (raised_to f P) records asked other
+    → KeepsReplies f P records → KeepsAsked f P asked → GivesQuery P records asked said → GivesQuery (raised_to f P) records asked other
     → other ≡ said
-raised_to_only f P records asked said other kept given raised_given =
-    one_reply (raised_to f P) records asked other said raised_given (raised_to_reply f P records asked said kept given)
+raised_to_only f P records asked said other kept keeps given raised_given =
+    one_reply (raised_to f P) records asked other said raised_given (raised_to_reply f P records asked said kept keeps given)
+
+-- with version 2 no joint announcements come
+two_has : (f : Form) → has_joint (wider Two f) ≡ has_joint f
+two_has One = refl
+two_has Two = refl
+two_has Three = refl
+two_has Four = refl
+
+two_keeps : (P : Program) (asked : Query) → KeepsAsked Two P asked
+two_keeps P (query.Var number) = tt
+two_keeps P query.Outputs = tt
+two_keeps P (query.Output number) = tt
+two_keeps P query.Horizon = tt
+two_keeps P query.Released = tt
+two_keeps P query.Lost = tt
+two_keeps P (query.Breach origin) = tt
+two_keeps P query.JointBreach = two_has P.form
+two_keeps P (query.Log place) = tt
 
 -- so it is in version 2 where nothing was lost
 pub raised_reply : (P : Program) (records : List Record) (log : ℕ) (asked : Query) (said : Reply)
     → GivesQuery P records query.Lost (reply.Lost log 0) → GivesQuery P records asked said → GivesQuery (raised P) records asked said
-raised_reply P records log asked said lost given = raised_to_reply Two P records asked said (inr (log, lost)) given
+raised_reply P records log asked said lost given =
+    raised_to_reply Two P records asked said (inr (log, lost)) (two_keeps P asked) given
 
 pub raised_only : (P : Program) (records : List Record) (log : ℕ) (asked : Query) (said other : Reply)
     → GivesQuery P records query.Lost (reply.Lost log 0) → GivesQuery P records asked said → GivesQuery (raised P) records asked other
     → other ≡ said
 raised_only P records log asked said other lost given raised_given =
-    raised_to_only Two P records asked said other (inr (log, lost)) given raised_given
+    raised_to_only Two P records asked said other (inr (log, lost)) (two_keeps P asked) given raised_given

@@ -6,14 +6,14 @@ use Rattle.std.proofs.lemmas.Bool.Decides.{nat_tests}
 use Rattle.std.proofs.lemmas.List.{length-take-le, take_all, take_more}
 use Rattle.std.proofs.lemmas.List.Elements.{All-contains}
 use Rattle.std.proofs.lemmas.Option.{get_or_from_slice_get, none-some, slice_get_within}
-use Rattle.warp_tag.specs.Limits.{most_records, wider}
+use Rattle.warp_tag.specs.Limits.{has_joint, most_records, wider}
 use Rattle.warp_tag.specs.Moment.{Moment, is_before}
 use Rattle.warp_tag.specs.declared.form.Form.{Form}
-use Rattle.warp_tag.proofs.Forms.{microstep_kept, records_kept}
+use Rattle.warp_tag.proofs.Forms.{joint_kept, microstep_kept, records_kept}
 use Rattle.warp_step.specs.Program.{Program, raised_to, top_of}
 use Rattle.warp_step.specs.Events.{is_declared, is_in_time, has_input, owns_input}
 use Rattle.warp_record.specs.declared.record.Record.{Record}
-use Rattle.warp_record.specs.declared.record.Record.TheVariants.{Event, Withdraw, Announce}
+use Rattle.warp_record.specs.declared.record.Record.TheVariants.{Event, Withdraw, Announce, Joint}
 use Rattle.warp_record.specs.declared.reply.Refusal.{Refusal}
 use Rattle.warp_record.specs.declared.reply.Refusal.TheVariants.{NoOrigin, PastStop, NoInput, NotYours, LogFull, NoMemory}
 use Rattle.warp_table.specs.Check.{end_of, refusal_of}
@@ -59,6 +59,14 @@ end_still true false true goes h = let never = goes refl in cc
 end_still true true more goes h = cc
 end_still false b more goes h = h
 
+-- and what stood against a joint one, where there may come to be such
+joint_still : (a grown b more : Bool) → (a ≡ true → grown ≡ true) → (b ≡ false → more ≡ false)
+    → (if a then (if b then Some PastStop else None) else Some NoOrigin) ≡ None
+    → (if grown then (if more then Some PastStop else None) else Some NoOrigin) ≡ None
+joint_still true true b more grows goes h = end_still true b more goes h
+joint_still true false b more grows goes h = let never = grows refl in cc
+joint_still false grown b more grows goes h = cc
+
 -- what a program has no reason against, the raised program has none against
 pub raised_allows : (f : Form) (P : Program) (said : Record) → refusal_of P said ≡ None → refusal_of (raised_to f P) said ≡ None
 raised_allows f P (Event origin tag input value) h =
@@ -67,6 +75,10 @@ raised_allows f P (Withdraw origin tag) h = name_still (is_declared P origin) (i
 raised_allows f P (Announce origin tag events withdrawn) h =
     end_still (is_declared P origin) (is_before (end_of P) tag || nat_lt (top_of P) tag.microstep)
     (is_before (end_of P) tag || nat_lt (top_of (raised_to f P)) tag.microstep)
+    (not_past (is_before (end_of P) tag) (top_of P) (top_of (raised_to f P)) tag.microstep (microstep_kept f P.form)) h
+raised_allows f P (Joint tag events withdrawn) h =
+    joint_still (has_joint P.form) (has_joint (wider f P.form)) (is_before (end_of P) tag || nat_lt (top_of P) tag.microstep)
+    (is_before (end_of P) tag || nat_lt (top_of (raised_to f P)) tag.microstep) (joint_kept f P.form)
     (not_past (is_before (end_of P) tag) (top_of P) (top_of (raised_to f P)) tag.microstep (microstep_kept f P.form)) h
 
 -- The first records of another log are there, and no others.

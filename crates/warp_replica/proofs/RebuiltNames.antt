@@ -9,7 +9,7 @@ use Rattle.warp_tag.specs.Limits.{most_names, most_records, widest}
 use Rattle.warp_tag.specs.Moment.{Moment}
 use Rattle.warp_tag.specs.declared.entry.Entry.{Entry}
 use Rattle.warp_record.specs.declared.record.Record.{Record}
-use Rattle.warp_record.specs.declared.record.Record.TheVariants.{Event, Withdraw, Announce}
+use Rattle.warp_record.specs.declared.record.Record.TheVariants.{Event, Withdraw, Announce, Joint}
 use Rattle.warp_step.specs.Program.{Program}
 use Rattle.warp_line.specs.Timeline.{Standing}
 use Rattle.warp_table.specs.Names.{Tells}
@@ -67,6 +67,7 @@ few_names [] = omega arith
 few_names (Event o t input value ∷ records) = omega (arith, few_names records, fewer (o, t) (names_of records))
 few_names (Withdraw o t ∷ records) = omega (arith, few_names records, fewer (o, t) (names_of records))
 few_names (Announce o t events withdrawn ∷ records) = omega (arith, few_names records)
+few_names (Joint t events withdrawn ∷ records) = omega (arith, few_names records)
 
 -- where the log has no more, what the set tells of a name is among them
 pub first_all : (records : List Record) (count : ℕ) (names : List Entry) → AreFirst records count names → length (names_of records) ≤ count

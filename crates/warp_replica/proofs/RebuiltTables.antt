@@ -12,7 +12,7 @@ use Rattle.warp_tag.proofs.Lists.{some_not_none}
 use Rattle.warp_tag.proofs.Names.{named_is}
 use Rattle.warp_tag.proofs.Tables.{length-changed, table_changed, with_event_names}
 use Rattle.warp_record.specs.declared.record.Record.{Record}
-use Rattle.warp_record.specs.declared.record.Record.TheVariants.{Event, Withdraw, Announce}
+use Rattle.warp_record.specs.declared.record.Record.TheVariants.{Event, Withdraw, Announce, Joint}
 use Rattle.warp_step.specs.Program.{Program}
 use Rattle.warp_table.specs.Check.{refusal_of}
 use Rattle.warp_table.specs.Names.{IsOf, Tells, TellsPayload}
@@ -119,6 +119,7 @@ module _ (S : Records) where
       by (Withdraw o t) has of =
           both_ways e.withdrawn no_mark (h.mark.1 (subst (λ (n : ℕ × Moment). IsIn S (Withdraw n.0 n.1)) (λ i. (of.0 i, of.1 i)) has))
       by (Announce o t events withdrawn) has of = of
+      by (Joint t events withdrawn) has of = of
 
   -- a table that knows of names nothing but what the set tells
   abbrev IsPart : List Entry → Type 0
@@ -240,6 +241,7 @@ pub one_longer : (table : List Entry) (said : Record) → length (with_record ta
 one_longer table (Event origin tag input value) = length-changed (with_event input value) origin tag table
 one_longer table (Withdraw origin tag) = length-changed with_withdrawal origin tag table
 one_longer table (Announce origin tag events withdrawn) = omega arith
+one_longer table (Joint tag events withdrawn) = omega arith
 
 pub payload_longer : (e : Entry) (table : List Entry) (event : Option (ℕ × ℤ)) → length (with_payload e table event) ≤ length table + 1
 payload_longer e table None = omega arith

@@ -33,6 +33,7 @@ some_answer P records once announced =
         horizon = announced.horizon;
         released = released_of announced.horizon (outputs_of run.0);
         broken = announced.broken;
+        broken_jointly = announced.broken_jointly;
       },
       record {
         events = live (table_of records);
@@ -45,6 +46,7 @@ some_answer P records once announced =
         horizon = announced.reached;
         released = refl;
         broken = announced.breaks;
+        broken_jointly = announced.breaks_jointly;
       },
     )
 
@@ -61,6 +63,8 @@ one_answer P S a b h k =
     let released : a.released ≡ b.released = h.released ∙ (λ i. released_of (horizons i) (outputs i)) ∙ sym k.released in
     let broken : a.broken ≡ b.broken =
     λ i origin. same_from_decides (a.broken origin) (b.broken origin) (h.broken origin) (k.broken origin) i in
+    let jointly : a.broken_jointly ≡ b.broken_jointly =
+    same_from_decides a.broken_jointly b.broken_jointly h.broken_jointly k.broken_jointly in
     λ i. record {
       state = states i;
       outputs = outputs i;
@@ -68,6 +72,7 @@ one_answer P S a b h k =
       horizon = horizons i;
       released = released i;
       broken = broken i;
+      broken_jointly = jointly i;
     }
 
 -- and so have two sets that are one
@@ -89,4 +94,5 @@ same_gives P records other query.Horizon reply same places h = (h.0, subst (λ S
 same_gives P records other query.Released reply same places h = (h.0, subst (λ S. AreAnswers P S h.0) same h.1, h.2)
 same_gives P records other query.Lost reply same places h = (h.0, subst (λ S. AreAnswers P S h.0) same h.1, h.2)
 same_gives P records other (query.Breach origin) reply same places h = (h.0, subst (λ S. AreAnswers P S h.0) same h.1, h.2)
+same_gives P records other query.JointBreach reply same places h = (h.0, subst (λ S. AreAnswers P S h.0) same h.1, h.2)
 same_gives P records other (query.Log place) reply same places h = absurd (places tt)

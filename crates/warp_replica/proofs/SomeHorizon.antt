@@ -10,9 +10,11 @@ use Rattle.warp_step.specs.Valid.{is_valid}
 use Rattle.warp_step.proofs.ValidLemmas.{validity}
 use Rattle.warp_record.specs.declared.record.Record.{Record}
 use Rattle.warp_table.specs.Announced.{IsBroken, IsHorizon, ReachesTo}
+use Rattle.warp_table.specs.Joint.{IsBrokenJointly}
 use Rattle.warp_table.specs.Records.{Records, set_of}
 use Rattle.warp_table.proofs.Horizons.{none_before_beginning}
-use Rattle.warp_table.proofs.SomeHeard.{some_breach, some_reach}
+use Rattle.warp_table.proofs.SomeHeard.{some_breach}
+use Rattle.warp_table.proofs.SomeJoint.{some_breach_jointly, some_reach}
 
 module _ (f : ℕ → Moment) where
   -- no tag of the first so many is before this one
@@ -46,12 +48,14 @@ module _ (f : ℕ → Moment) where
         | inr no_earlier ↦ (rest.0, omega (arith, rest.1), one_more (suc count) (f rest.0) rest.2 no_earlier)
       ]
 
--- a set's horizon, and for each origin whether it broke an announcement
+-- a set's horizon, for each origin whether it broke an announcement, and whether a joint one is broken
 pub record Announces (P : Program) (S : Records) : Type 0 where
   pub horizon : Moment
   pub reached : IsHorizon P S horizon
   pub broken : ℕ → Bool
   pub breaks : (origin : ℕ) → IsTrue (broken origin) ↔ IsBroken S origin
+  pub broken_jointly : Bool
+  pub breaks_jointly : IsTrue broken_jointly ↔ IsBrokenJointly S
 
 -- where each origin's announcements reach to some tag, there is a least of these tags
 pub some_horizon : (P : Program) (S : Records) → ((origin : ℕ) → (end : Moment) × ReachesTo S origin end) → 0 < P.origins
@@ -93,6 +97,8 @@ announces P records some =
       reached = horizon.1;
       broken = λ origin. (some_breach records origin).0;
       breaks = λ origin. (some_breach records origin).1;
+      broken_jointly = (some_breach_jointly records).0;
+      breaks_jointly = (some_breach_jointly records).1;
     }
 
 -- and to a valid one

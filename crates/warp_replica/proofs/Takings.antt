@@ -4,13 +4,13 @@ use Rattle.std.proofs.Common.{length, slice_get, Contains, Option, Some, None, R
 use Rattle.std.proofs.Common.{sym, ap, ◌∙◌, arith}
 use Rattle.std.proofs.lemmas.Bool.{both_ways, cases_Bool, cases_lt}
 use Rattle.std.proofs.lemmas.Option.{get_or_from_slice_get, slice_get-get_or, slice_get_within}
-use Rattle.warp_tag.specs.Limits.{most_records}
+use Rattle.warp_tag.specs.Limits.{has_joint, most_records}
 use Rattle.warp_tag.specs.Moment.{is_before}
 use Rattle.warp_tag.specs.declared.form.Form.{Form}
 use Rattle.warp_step.specs.Program.{Program, top_of}
 use Rattle.warp_step.specs.Events.{is_declared, is_in_time, has_input, owns_input}
 use Rattle.warp_record.specs.declared.record.Record.{Record}
-use Rattle.warp_record.specs.declared.record.Record.TheVariants.{Event, Withdraw, Announce}
+use Rattle.warp_record.specs.declared.record.Record.TheVariants.{Event, Withdraw, Announce, Joint}
 use Rattle.warp_record.specs.declared.reply.Refusal.{Refusal}
 use Rattle.warp_record.specs.declared.reply.Refusal.TheVariants.{Syntax, NoOrigin, PastStop, NoInput, NotYours, NoVar}
 use Rattle.warp_record.specs.declared.reply.Refusal.TheVariants.{LogFull, NoMemory, TooLong, Busy, NoBoard}
@@ -60,6 +60,9 @@ no_reason_memory P (Event origin tag input value) =
 no_reason_memory P (Withdraw origin tag) = neither (is_declared P origin) _ _ (neither (is_in_time P tag) _ _ (λ e. cc) (λ e. cc)) (λ e. cc)
 no_reason_memory P (Announce origin tag events withdrawn) =
     neither (is_declared P origin) _ _
+    (neither (is_before (end_of P) tag || nat_lt (top_of P) tag.microstep) _ _ (λ e. cc) (λ e. cc)) (λ e. cc)
+no_reason_memory P (Joint tag events withdrawn) =
+    neither (has_joint P.form) _ _
     (neither (is_before (end_of P) tag || nat_lt (top_of P) tag.microstep) _ _ (λ e. cc) (λ e. cc)) (λ e. cc)
 
 -- room is wanting, memory apart, where the log is full

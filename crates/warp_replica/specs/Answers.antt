@@ -9,13 +9,14 @@ use Rattle.warp_tag.specs.declared.out.Out.{Out}
 use Rattle.warp_table.specs.Records.{Records, HasSize}
 use Rattle.warp_table.specs.Names.{IsLive}
 use Rattle.warp_table.specs.Announced.{IsHorizon, IsBroken}
+use Rattle.warp_table.specs.Joint.{IsBrokenJointly}
 
 -- the outputs before a horizon
 abbrev pub released_of : Moment → List Out → List Out
 released_of horizon outputs = outputs_until horizon outputs
 
 -- the state after the last row, all outputs in order, how many records there are, the horizon, the outputs released
--- behind it, and for each origin whether it broke an announcement
+-- behind it, for each origin whether it broke an announcement, and whether a joint one is broken
 pub record Answers : Type 0 where
   pub state : Snapshot
   pub outputs : List Out
@@ -23,6 +24,7 @@ pub record Answers : Type 0 where
   pub horizon : Moment
   pub released : List Out
   pub broken : ℕ → Bool
+  pub broken_jointly : Bool
 
 -- These are the program's answers over the set: those of its run over the live events of the set, and of its
 -- announcements.
@@ -37,6 +39,7 @@ pub record AreAnswers (P : Program) (S : Records) (a : Answers) : Type 0 where
   pub horizon : IsHorizon P S a.horizon
   pub released : a.released ≡ released_of a.horizon a.outputs
   pub broken : (origin : ℕ) → IsTrue (a.broken origin) ↔ IsBroken S origin
+  pub broken_jointly : IsTrue a.broken_jointly ↔ IsBrokenJointly S
 
 -- this list is what the program releases over the set
 abbrev pub IsReleased : Program → Records → List Out → Type 0

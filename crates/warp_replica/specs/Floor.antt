@@ -7,7 +7,7 @@ use Rattle.warp_step.specs.Run.{Row, Run}
 use Rattle.warp_record.specs.declared.line.Line.{Line}
 use Rattle.warp_record.specs.declared.line.Line.TheVariants.{Put}
 use Rattle.warp_record.specs.declared.record.Record.{Record}
-use Rattle.warp_record.specs.declared.record.Record.TheVariants.{Event, Withdraw, Announce}
+use Rattle.warp_record.specs.declared.record.Record.TheVariants.{Event, Withdraw, Announce, Joint}
 use Rattle.warp_record.specs.declared.reply.Refusal.{Refusal}
 use Rattle.warp_record.specs.declared.reply.Reply.{Reply}
 use Rattle.warp_record.specs.declared.reply.Reply.TheVariants.{Taken}
@@ -23,6 +23,7 @@ abbrev pub comes_behind : Option Moment → Record → Bool
 comes_behind floor (Event origin tag input value) = is_behind floor tag
 comes_behind floor (Withdraw origin tag) = is_behind floor tag
 comes_behind floor (Announce origin tag events withdrawn) = false
+comes_behind floor (Joint tag events withdrawn) = false
 
 -- the line brings a record that comes behind the floor
 abbrev pub brings_behind : Option Moment → Line → Bool

@@ -2,13 +2,13 @@
 use Rattle.std.specs.Prelude.{◌≡◌, ◌⊎◌, ℕ, zero, suc, ◌+◌, ◌<◌, Bool, true, false, List, [], ◌∷◌, ◌++◌, length}
 use Rattle.std.specs.Prelude.{Contains, slice_get, Option, Some, None, Result, Ok, Err, if◌then◌else◌}
 use Rattle.std.specs.Option.{option_map, unwrap_or}
-use Rattle.warp_tag.specs.Limits.{last_microstep, most_records, wider}
+use Rattle.warp_tag.specs.Limits.{has_joint, last_microstep, most_records, wider}
 use Rattle.warp_tag.specs.Moment.{Moment}
 use Rattle.warp_tag.specs.declared.form.Form.{Form}
 use Rattle.warp_step.specs.Program.{Program}
 use Rattle.warp_step.specs.Events.{is_declared}
 use Rattle.warp_record.specs.declared.record.Record.{Record}
-use Rattle.warp_record.specs.declared.record.Record.TheVariants.{Event, Withdraw, Announce}
+use Rattle.warp_record.specs.declared.record.Record.TheVariants.{Event, Withdraw, Announce, Joint}
 use Rattle.warp_record.specs.declared.line.Query.{Query}
 use Rattle.warp_record.specs.declared.line.Query.TheVariants as query
 use Rattle.warp_record.specs.declared.line.Line.{Line}
@@ -29,6 +29,7 @@ abbrev pub tag_of : Record → Moment
 tag_of (Event origin tag input value) = tag
 tag_of (Withdraw origin tag) = tag
 tag_of (Announce origin tag events withdrawn) = tag
+tag_of (Joint tag events withdrawn) = tag
 
 -- the program has no reason against the record, and the log lacks it
 abbrev pub IsNew : Program → List Record → Record → Type 0
@@ -69,8 +70,8 @@ record_at records zero = None
 record_at records (suc index) = slice_get records index
 
 -- The reply to a query, by the answers of a set of records; the places in `log` are those of the list alone. Where
--- there is no such variable it is refusal 6, where the program has no such origin refusal 2, and where there is no such
--- output or place `none`.
+-- there is no such variable it is refusal 6, where the program has no such origin, or no joint announcements, refusal 2,
+-- and where there is no such output or place `none`.
 abbrev pub reply_to : Program → List Record → Answers → Query → Reply
 reply_to P records a (query.Var number) =
     unwrap_or (option_map (λ value. reply.Var a.count value) (slice_get a.state.vars number)) (reply.Refused NoVar)
@@ -82,6 +83,8 @@ reply_to P records a query.Released = reply.Released a.count (length a.released)
 reply_to P records a query.Lost = reply.Lost a.count a.state.lost
 reply_to P records a (query.Breach origin) =
     if is_declared P origin then reply.Breach a.count (a.broken origin) else reply.Refused NoOrigin
+reply_to P records a query.JointBreach =
+    if has_joint P.form then reply.Breach a.count a.broken_jointly else reply.Refused NoOrigin
 reply_to P records a (query.Log place) =
     unwrap_or (option_map (λ said. reply.Log a.count said) (record_at records place)) (reply.Nothing a.count)
 
@@ -101,6 +104,12 @@ abbrev pub KeepsReplies : Form → Program → List Record → Type 0
 KeepsReplies f P records =
     (last_microstep (wider f P.form) ≡ last_microstep P.form)
     ⊎ ((log : ℕ) × GivesQuery P records query.Lost (reply.Lost log 0))
+
+-- raising the program to this form leaves what the query asks of: whether a joint announcement is broken is asked of a
+-- program that has such, and is refused by one that has none
+abbrev pub KeepsAsked : Form → Program → Query → Type 0
+KeepsAsked f P query.JointBreach = has_joint (wider f P.form) ≡ has_joint P.form
+KeepsAsked f P other = Unit {0}
 
 -- On this log of this program the line may give this reply, and leave this log. Want of memory may stand before any
 -- query, before collecting, and where a new record would be taken. There is no board here.

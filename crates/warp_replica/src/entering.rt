@@ -19,6 +19,7 @@ pub(crate) fn comes_behind<T: Timeline>(timeline: &T, record: &Record) -> bool
         Record::Event { tag, .. } => timeline.behind(tag),
         Record::Withdraw { tag, .. } => timeline.behind(tag),
         Record::Announce { .. } => false,
+        Record::Joint { .. } => false,
     }
 }
 
@@ -44,5 +45,6 @@ pub(crate) fn enter_record<T: Timeline>(timeline: &mut T, record: &Record)
         Record::Withdraw { origin, tag } => timeline.withdraw(origin, tag),
         // What it says counts for no event.
         Record::Announce { .. } => {}
+        Record::Joint { .. } => {}
     }
 }

@@ -15,7 +15,7 @@ ghost use Rattle.warp_table.specs.Log.{EachOnce};
 ghost use Rattle.warp_table.specs.Records.{Records, set_of, union};
 ghost use Rattle.warp_replica.specs.Answers.{Answers, AreAnswers};
 ghost use Rattle.warp_replica.specs.Desk.{LocalState, LocalGives};
-ghost use Rattle.warp_replica.specs.Gives.{GivesQuery, AsksPlace, KeepsReplies, Takes};
+ghost use Rattle.warp_replica.specs.Gives.{GivesQuery, AsksPlace, KeepsAsked, KeepsReplies, Takes};
 ghost use Rattle.warp_replica.specs.Merge.{merged};
 ghost use Rattle.warp_replica.specs.declared.taking.Took.{Took};
 
@@ -99,13 +99,15 @@ pub fn raised_replies()
 
 /// A program raised to a form has no reason against a record that the program had none against. And where the old
 /// program lost nothing over a log, or its times have as many microsteps as the raised one's (as from version 2 to
-/// version 3), the raised one gives the same reply to every query over it, and no other.
+/// version 3), the raised one gives the same reply to every query over it, and no other; but that one of version 4 tells
+/// whether a joint announcement is broken, and older ones refuse it.
 pub fn raised_to_replies()
     ensures allowed { (f : Form) (P : Program) (said : Record) → refusal_of P said ≡ None →
         refusal_of (raised_to f P) said ≡ None }
     ensures same { (f : Form) (P : Program) (records : List Record) (query : Query) (reply : Reply) →
-        KeepsReplies f P records → GivesQuery P records query reply → GivesQuery (raised_to f P) records query reply }
+        KeepsReplies f P records → KeepsAsked f P query → GivesQuery P records query reply →
+        GivesQuery (raised_to f P) records query reply }
     ensures only { (f : Form) (P : Program) (records : List Record) (query : Query) (reply other : Reply) →
-        KeepsReplies f P records → GivesQuery P records query reply →
+        KeepsReplies f P records → KeepsAsked f P query → GivesQuery P records query reply →
         GivesQuery (raised_to f P) records query other → other ≡ reply }
 {}

@@ -217,7 +217,7 @@ impl<T: Timeline> Replica<T> {
     fn add_behind(&mut self, alloc: Global, record: &Record) -> Result<Took, OutOfMemory>
         requires allowed { refusal_of self.old.program «record».now ≡ None }
         requires room { length self.old.records < most_records self.old.program.form }
-        requires origin { origin_of «record».now < most_origins widest }
+        requires origin { IfSome (origin_of «record».now) (λ origin. origin < most_origins widest) }
         ensures takes { IfOk result
             (λ took. Takes self.old.program self.old.records «record».now (Ok took) self.new.records) }
         ensures program { self.new.program ≡ self.old.program }
@@ -381,6 +381,7 @@ impl<T: Timeline> Replica<T> {
             Query::Released => self.released_count(),
             Query::Lost => self.lost(),
             Query::Breach(origin) => self.breach(origin),
+            Query::JointBreach => self.joint_breach(),
             Query::Log(place) => self.record(place),
         }
     }
@@ -461,11 +462,11 @@ impl<T: Timeline> Replica<T> {
     }
 
     /// The released outputs, in order: those before the horizon. These are the first of all outputs. The port of each
-    /// is 0 to 63.
+    /// is 0 to 255.
     pub fn released(&self) -> &[Out]
         requires { IsTrue (T.settled self.now.timeline) }
         ensures released { IsReleased self.now.program (set_of self.now.records) result.now }
-        ensures ports { All (λ out. out.port < most_outputs) result.now }
+        ensures ports { All (λ out. out.port < most_outputs widest) result.now }
     {
         // Each record is there once, and so they can be counted; each program is valid, and so has few outputs.
         self.valid();
@@ -477,16 +478,17 @@ impl<T: Timeline> Replica<T> {
     }
 
     /// Whether the tag is before the horizon, so that outputs at it are released. The replica need not be settled. What
-    /// this origin reached is looked at first, since no horizon is behind it: so a tag that it may send costs one look.
+    /// this origin reached, if one is given, is looked at first, since no horizon is behind it: so a tag that it may send
+    /// costs one look.
     #[inline(always)]
-    pub fn is_before_horizon(&self, origin: u32, tag: Tag) -> bool
+    pub fn is_before_horizon(&self, origin: Option<u32>, tag: Tag) -> bool
         ensures { (horizon : Moment) × IsHorizon self.now.program (set_of self.now.records) horizon
             × (result ≡ is_before tag horizon) }
     {
         // Each program is valid, and so has a horizon.
         self.program.valid();
-        if origin < self.program.origins() {
-            if !tag.is_before(self.table.reached(origin)) {
+        if let Some(origin) = origin {
+            if origin < self.program.origins() && !tag.is_before(self.table.reached(origin)) {
                 return false;
             }
         }
@@ -519,6 +521,24 @@ impl<T: Timeline> Replica<T> {
         Reply::Breach {
             log,
             broken: self.table.broken(origin),
+        }
+    }
+
+    /// Tells whether a joint announcement is broken, if the program's form has such.
+    fn joint_breach(&self) -> Reply
+        requires { IsTrue (T.settled self.now.timeline) }
+        ensures gives { GivesQuery self.now.program self.now.records Query.JointBreach result }
+        ensures reply { IsReply widest result }
+    {
+        // Each program is valid, and so has an origin and a horizon.
+        self.program.valid();
+        let log = self.table.len();
+        if !self.program.form().has_joint() {
+            return Reply::Refused(Refusal::NoOrigin);
+        }
+        Reply::Breach {
+            log,
+            broken: self.table.joint_broken(),
         }
     }
 
@@ -629,7 +649,7 @@ impl<T: Timeline> Replica<T> {
 
 /// That an output is in range where its number is. It does nothing.
 fn output_in_range(output: &Out)
-    requires { output.now.port < most_outputs }
+    requires { output.now.port < most_outputs widest }
     ensures { IsOut widest output.now }
 {
     // A look at its tag and its value shows it.
@@ -658,6 +678,14 @@ fn record_in_range(program: &Program, record: &Record)
             events,
             withdrawn,
             ..
+        } => {
+            let _time = tag.time();
+            let _counts = (events.get(), withdrawn.get());
+        }
+        Record::Joint {
+            tag,
+            events,
+            withdrawn,
         } => {
             let _time = tag.time();
             let _counts = (events.get(), withdrawn.get());

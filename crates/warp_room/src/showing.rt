@@ -88,5 +88,6 @@ fn tag_of(record: &Record) -> Tag {
         Record::Event { tag, .. } => tag,
         Record::Withdraw { tag, .. } => tag,
         Record::Announce { tag, .. } => tag,
+        Record::Joint { tag, .. } => tag,
     }
 }

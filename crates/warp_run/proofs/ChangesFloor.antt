@@ -1,5 +1,5 @@
 -- The entries and places that are not behind a floor: what is known of a name there, a change of it, and a walk along them.
-use Rattle.std.proofs.Common.{◌≡◌, ◌<◌, ℕ, Bool, true, false, not, cond, ◌&&◌, ◌==◌, List, [], ◌∷◌, length, ap, sym, subst, ◌∙◌, refl, arith, filter, inl, inr, IsSome, Option, Some, None}
+use Rattle.std.proofs.Common.{◌≡◌, ◌<◌, ℕ, Bool, true, false, not, cond, ◌&&◌, ◌==◌, List, [], ◌∷◌, length, ap, sym, subst, ◌∙◌, refl, arith, filter, inl, inr, IsSome, Option, Some, None, Result, Ok, Err, OnOk, OnErr}
 use Rattle.std.proofs.lemmas.Bool.{cases_Bool}
 use Rattle.std.proofs.lemmas.Bool.Decides.{nat_tests}
 use Rattle.std.proofs.lemmas.List.Sums.{count_by-le-length, length-filter}
@@ -13,7 +13,7 @@ use Rattle.warp_tag.proofs.Lists.{filter-here, filter-past, same_some}
 use Rattle.warp_tag.proofs.Names.{named_is}
 use Rattle.warp_tag.proofs.Tables.{KeepsNames}
 use Rattle.warp_step.specs.Run.{is_after}
-use Rattle.warp_arena.specs.Places.{Contents, Place, Reaches, entries_of, entry_of, first_node, places_from}
+use Rattle.warp_arena.specs.Places.{Contents, Place, Reaches, entries_of, entry_of, first_node, places_from, with_free}
 use Rattle.warp_arena.proofs.Tables.{filter-map_at}
 use Rattle.warp_line.specs.Timeline.{MovesFloor, Standing, is_behind}
 use Rattle.warp_run.specs.Tip.{HasExecuted}
@@ -246,6 +246,30 @@ collected w a x m below h is at moves same =
       settled = h.settled;
       skips = h.skips;
     }
+
+-- ---- a `Warp` whose arena has more room
+
+-- where its arena has the same origins and places, it stands for the same
+pub still_stands : (w : Warp) (a : Contents) (m : Standing) → StandsFor w m → (a.origins ≡ w.arena.origins) × (a.places ≡ w.arena.places)
+    → StandsFor (record w { arena = a }) m
+still_stands w a m h same = record {
+  program = h.program;
+  origins = same.0 ∙ h.origins;
+  table = ap entries_of same.1 ∙ h.table;
+  ordered = h.ordered;
+  events = h.events;
+  tip = h.tip;
+  cursor = subst (λ (ps : List Place). Reaches ps (ahead w.tip.last ps) w.cursor) (sym same.1) h.cursor;
+  latest = h.latest;
+  settled = h.settled;
+  skips = h.skips;
+}
+
+-- room for one more changes neither, whether it was to be had
+pub room_alone : {X E : Type 0} (result : Result X E) (a b : Contents) → OnOk result (b ≡ with_free b.room a)
+    → OnErr result (b ≡ record a { room = record b.room { nodes = a.room.nodes } }) → (b.origins ≡ a.origins) × (b.places ≡ a.places)
+room_alone (Ok _) a b ok err = (ap (λ (c : Contents). c.origins) ok, ap (λ (c : Contents). c.places) ok)
+room_alone (Err _) a b ok err = (ap (λ (c : Contents). c.origins) err, ap (λ (c : Contents). c.places) err)
 
 -- ---- how many it holds
 

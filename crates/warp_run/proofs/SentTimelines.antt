@@ -28,7 +28,7 @@ divisor_send = search sendable depth 60
 
 -- an instruction, variant after variant
 instruction_send : IsSend instruction.the_row
-instruction_send = variants_send instruction.enum ((destination_send, (operand_send, tt)), ((destination_send, (search sendable depth 60, tt)), ((destination_send, (search sendable depth 60, tt)), ((search sendable depth 60, (destination_send, (operand_send, tt))), ((search sendable depth 60, (destination_send, (operand_send, (operand_send, tt)))), ((destination_send, (operand_send, (search sendable, tt))), ((destination_send, (operand_send, (divisor_send, tt))), ((destination_send, (operand_send, (divisor_send, tt))), ((destination_send, (operand_send, (operand_send, (operand_send, tt)))), ((search sendable, (search sendable, (search sendable, (operand_send, tt)))), ((search sendable, (search sendable, (search sendable, (search sendable, tt)))), ((search sendable, (search sendable, (search sendable, tt))), ((search sendable, (search sendable, (operand_send, tt))), ((search sendable, (search sendable, (search sendable, tt))), ((search sendable, (search sendable, (operand_send, tt))), ((search sendable, (search sendable, (search sendable, tt))), ((search sendable, (search sendable, (search sendable, (operand_send, tt)))), ((search sendable, (search sendable, (search sendable, (search sendable, tt)))), ((search sendable, (search sendable, tt)), ((search sendable, (search sendable, (operand_send, tt))), ((search sendable, (search sendable, (operand_send, (divisor_send, tt)))), ((search sendable, tt), ((search sendable, tt), ((operand_send, (search sendable, (search sendable, tt))), ((search sendable, (search sendable, (search sendable, tt))), ((operand_send, (search sendable, (search sendable, (search sendable, tt)))), ((operand_send, (divisor_send, (search sendable, (search sendable, (search sendable, tt))))), ((operand_send, (operand_send, (search sendable, (search sendable, tt)))), ((operand_send, (operand_send, (search sendable, (search sendable, tt)))), ((operand_send, (search sendable, (search sendable, (search sendable, tt)))), ((search sendable, (search sendable, (search sendable, (search sendable, tt)))), ((search sendable, (search sendable, (search sendable, (search sendable, tt)))), tt))))))))))))))))))))))))))))))))
+instruction_send = variants_send instruction.enum ((destination_send, (operand_send, tt)), ((destination_send, (search sendable depth 60, tt)), ((destination_send, (search sendable depth 60, tt)), ((search sendable depth 60, (destination_send, (operand_send, tt))), ((search sendable depth 60, (destination_send, (operand_send, (operand_send, tt)))), ((destination_send, (operand_send, (search sendable, tt))), ((destination_send, (operand_send, (divisor_send, tt))), ((destination_send, (operand_send, (divisor_send, tt))), ((destination_send, (operand_send, (operand_send, (operand_send, tt)))), ((destination_send, (search sendable, (search sendable, (operand_send, tt)))), ((search sendable, (search sendable, (operand_send, (operand_send, tt)))), ((search sendable, (search sendable, (search sendable, (operand_send, tt)))), ((search sendable, (search sendable, (search sendable, (search sendable, tt)))), ((search sendable, (search sendable, (search sendable, tt))), ((search sendable, (search sendable, (operand_send, tt))), ((search sendable, (search sendable, (search sendable, tt))), ((search sendable, (search sendable, (operand_send, tt))), ((search sendable, (search sendable, (search sendable, tt))), ((search sendable, (search sendable, (search sendable, (operand_send, tt)))), ((search sendable, (search sendable, (search sendable, (search sendable, tt)))), ((search sendable, (search sendable, tt)), ((search sendable, (search sendable, (operand_send, tt))), ((search sendable, (search sendable, (operand_send, (divisor_send, tt)))), ((search sendable, tt), ((search sendable, tt), ((operand_send, (search sendable, (search sendable, tt))), ((search sendable, (search sendable, (search sendable, tt))), ((operand_send, (search sendable, (search sendable, (search sendable, tt)))), ((operand_send, (divisor_send, (search sendable, (search sendable, (search sendable, tt))))), ((operand_send, (operand_send, (search sendable, (search sendable, tt)))), ((operand_send, (operand_send, (search sendable, (search sendable, tt)))), ((operand_send, (search sendable, (search sendable, (search sendable, tt)))), ((search sendable, (search sendable, (search sendable, (search sendable, tt)))), ((search sendable, (search sendable, (search sendable, (search sendable, tt)))), tt))))))))))))))))))))))))))))))))))
 
 -- and a body's code holds its statements
 code_send : IsSend code.the_row

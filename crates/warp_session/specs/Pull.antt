@@ -4,7 +4,7 @@ use Rattle.std.specs.Io.KnownBytes.{Appends, Consumes, IsAtEnd}
 use Rattle.std.specs.List.{flat_map}
 use Rattle.warp_tag.specs.Lists.{StartsWith}
 use Rattle.warp_tag.specs.declared.form.Form.{Form}
-use Rattle.warp_tag.specs.declared.form.Form.TheVariants.{One, Two, Three}
+use Rattle.warp_tag.specs.declared.form.Form.TheVariants.{One, Two, Three, Four}
 use Rattle.warp_record.specs.declared.line.Line.{Line}
 use Rattle.warp_record.specs.declared.line.Line.TheVariants.{Ask}
 use Rattle.warp_record.specs.declared.line.Query.TheVariants.{Log}
@@ -26,6 +26,7 @@ abbrev pub most_turns : Form → ℕ
 most_turns One = 1000000
 most_turns Two = 1000000
 most_turns Three = 100000000
+most_turns Four = 100000000
 
 -- the place that the other replica was asked for, its reply, if that reads, and what it led to
 pub record Heard : Type 0 where

@@ -35,7 +35,7 @@ fn most_turns(form: Form) -> u32
 {
     match form {
         Form::One | Form::Two => 1_000_000,
-        Form::Three => MAX_TURNS,
+        Form::Three | Form::Four => MAX_TURNS,
     }
 }
 

@@ -304,21 +304,21 @@ of_targets P t present (to.Port n ∷ ks) s fits order told = from_first P t pre
 -- where the entries at a tag alone are present, the timers that repeat are those among them
 pub repeats_are : (P : Program) (t : Moment) (ws : List Waiting) (s : Snapshot) → AreInOrder ws → IsTrue (list_all (λ w. is_same w.tag t) ws)
     → IsTrue (list_all (λ w. target_fits (program_places P) w.target) ws)
-    → with_repeats P t (arrived_entries ws (absent P)) 0 P.timers s ≡ again_each P t (targets ws) s
+    → with_repeats P t (arrived_entries ws (absent P t)) 0 P.timers s ≡ again_each P t (targets ws) s
 repeats_are P t ws s ordered here fits =
-    let own : IsTrue (list_all (λ w. target_fits (places_of (absent P)) w.target) ws) =
-    subst (λ (places : Places). IsTrue (list_all (λ w. target_fits places w.target) ws)) (sym (absent_places P)) fits in
-    of_targets P t (arrived_entries ws (absent P)) (targets ws) s (fit_map (program_places P) ws fits) (rising t ws ordered here)
-    (λ m. timers_with ws (absent P) m own
+    let own : IsTrue (list_all (λ w. target_fits (places_of (absent P t)) w.target) ws) =
+    subst (λ (places : Places). IsTrue (list_all (λ w. target_fits places w.target) ws)) (sym (absent_places P t)) fits in
+    of_targets P t (arrived_entries ws (absent P t)) (targets ws) s (fit_map (program_places P) ws fits) (rising t ws ordered here)
+    (λ m. timers_with ws (absent P t) m own
     ∙ ap (λ (o : Option ℤ). is_some o || list_any (is_target (to.Timer m)) (targets ws)) (none_at (length P.timers) m))
 
 -- where one target alone is present, it is again alone
 pub alone_again : (P : Program) (t : Moment) (k : Target) (v : ℤ) (s : Snapshot) → IsTrue (target_fits (program_places P) k)
-    → with_repeats P t (with_value k v (absent P)) 0 P.timers s ≡ again P t k s
+    → with_repeats P t (with_value k v (absent P t)) 0 P.timers s ≡ again P t k s
 alone_again P t k v s fits =
-    let own : IsTrue (target_fits (places_of (absent P)) k) = subst (λ (places : Places). IsTrue (target_fits places k)) (sym (absent_places P)) fits in
-    of_targets P t (with_value k v (absent P)) (k ∷ []) s (and_from (target_fits (program_places P) k) true fits refl) (tt, tt)
-    (λ m. timer_with k v (absent P) m own
+    let own : IsTrue (target_fits (places_of (absent P t)) k) = subst (λ (places : Places). IsTrue (target_fits places k)) (sym (absent_places P t)) fits in
+    of_targets P t (with_value k v (absent P t)) (k ∷ []) s (and_from (target_fits (program_places P) k) true fits refl) (tt, tt)
+    (λ m. timer_with k v (absent P t) m own
     ∙ ap (λ (o : Option ℤ). is_some o || is_target (to.Timer m) k) (none_at (length P.timers) m)
     ∙ or_false (is_target (to.Timer m) k))
 

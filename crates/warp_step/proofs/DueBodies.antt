@@ -3,9 +3,10 @@ use Rattle.std.proofs.Common.{◌≡◌, inl, inr, ℕ, Bool, true, false, ◌&&
 use Rattle.std.specs.List.{list_any}
 use Rattle.std.proofs.lemmas.Bool.{cases_Bool, or_cases, or_left, or_right, and_parts}
 use Rattle.warp_body.specs.Presence.{Presence, is_target, present_at}
-use Rattle.warp_body.specs.Effect.{Statement, SetVariable, PutOutput, ScheduleAction, Choose, Body, Done, Then, Effect, effect_of, effect_of_one}
+use Rattle.warp_body.specs.Effect.{Statement, SetVariable, PutOutput, ScheduleAction, Choose, SetCell, Repeat, Body, Done, Then, Effect, effect_of, effect_of_one, holds}
 use Rattle.warp_body.specs.Term.{is_true, value_of}
 use Rattle.warp_body.specs.declared.place.Target.{Target}
+use Rattle.warp_body.proofs.Turns.{turns_keep}
 use Rattle.warp_body.specs.declared.place.Target.TheVariants as to
 use Rattle.warp_step.specs.inner.Plan.{heeds, heeds_any, is_port}
 use Rattle.warp_step.specs.Program.{Program, Rule}
@@ -27,6 +28,9 @@ mutual
   statement_sources (Choose e first second) now =
       of_both (λ (done : Effect). done.present.sources ≡ now.present.sources) (is_true (value_of e now.vars now.present))
       (effect_of first now) (effect_of second now) (body_sources first now) (body_sources second now)
+  statement_sources (SetCell first count index e) now = refl
+  statement_sources (Repeat most e body) now =
+      turns_keep (λ (x : Effect). x.present.sources ≡ now.present.sources) (holds e) (effect_of body) (λ x h. body_sources body x ∙ h) most now refl
 
   pub body_sources : (b : Body) (now : Effect) → (effect_of b now).present.sources ≡ now.present.sources
   body_sources Done now = refl
@@ -74,6 +78,15 @@ module _ (P : Program) (r : Rule) (triggers : List Target) where
         let inner = and_parts (term_may P r e) (body_may P r first) outer.0 in
         of_both (λ (done : Effect). some_present triggers done.present ≡ some_present triggers now.present) (is_true (value_of e now.vars now.present))
         (effect_of first now) (effect_of second now) (body_same first now inner.1 none) (body_same second now outer.1 none)
+    statement_same (SetCell first count index e) now may none = refl
+    statement_same (Repeat most e body) now may none =
+        let both = and_parts (term_may P r e) (body_may P r body) may in
+        let kept = turns_keep
+        (λ (x : Effect). (heeds_any x.present.sources triggers (filter is_port r.writes) ≡ false) × (some_present triggers x.present ≡ some_present triggers now.present))
+        (holds e) (effect_of body)
+        (λ x h. (ap (λ (sources : List ℕ). heeds_any sources triggers (filter is_port r.writes)) (body_sources body x) ∙ h.0, body_same body x both.1 h.0 ∙ h.1))
+        most now (none, refl) in
+        kept.1
 
     body_same : (b : Body) (now : Effect) → IsTrue (body_may P r b) → heeds_any now.present.sources triggers (filter is_port r.writes) ≡ false
         → some_present triggers (effect_of b now).present ≡ some_present triggers now.present

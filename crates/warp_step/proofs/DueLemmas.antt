@@ -5,6 +5,7 @@ use Rattle.std.specs.List.{list_all, list_any}
 use Rattle.std.proofs.Math.Bool.{or-false}
 use Rattle.std.proofs.lemmas.Bool.{and_parts, cases_Bool, cond-false, cond-true, or_cases, or_from, or_left, eqb-false}
 use Rattle.std.proofs.lemmas.List.{get_or-set_other}
+use Rattle.warp_tag.specs.Moment.{Moment}
 use Rattle.warp_body.specs.Presence.{Presence, is_target, nothing_present, present_at, target_fits, with_value}
 use Rattle.warp_body.specs.declared.place.Places.{Places}
 use Rattle.warp_body.specs.declared.place.Target.{Target}
@@ -212,23 +213,23 @@ none_at zero k = refl
 none_at (suc n) zero = refl
 none_at (suc n) (suc k) = none_at n k
 
-absent_at : (places : Places) (sources : List ℕ) (target : Target) → present_at (nothing_present places sources) target ≡ None
-absent_at places sources to.Startup = refl
-absent_at places sources (to.Timer n) = none_at places.timers n
-absent_at places sources (to.Action n) = none_at places.actions n
-absent_at places sources (to.Port n) = none_at places.ports (slice_index_or sources n n)
+absent_at : (t : Moment) (places : Places) (sources : List ℕ) (target : Target) → present_at (nothing_present t places sources) target ≡ None
+absent_at t places sources to.Startup = refl
+absent_at t places sources (to.Timer n) = none_at places.timers n
+absent_at t places sources (to.Action n) = none_at places.actions n
+absent_at t places sources (to.Port n) = none_at places.ports (slice_index_or sources n n)
 
-none_triggers : (places : Places) (sources : List ℕ) (triggers : List Target)
-    → list_any (λ trigger. is_some (present_at (nothing_present places sources) trigger)) triggers ≡ false
-none_triggers places sources [] = refl
-none_triggers places sources (t ∷ ts) =
-    or_from _ _ (ap (λ (o : Option ℤ). is_some o) (absent_at places sources t)) (none_triggers places sources ts)
+none_triggers : (t : Moment) (places : Places) (sources : List ℕ) (triggers : List Target)
+    → list_any (λ trigger. is_some (present_at (nothing_present t places sources) trigger)) triggers ≡ false
+none_triggers t places sources [] = refl
+none_triggers t places sources (u ∷ ts) =
+    or_from _ _ (ap (λ (o : Option ℤ). is_some o) (absent_at t places sources u)) (none_triggers t places sources ts)
 
 -- where nothing is present, none is to be looked at, and so all are marked
-pub none_due : (P : Program) (places : Places) (sources : List ℕ) (word : ℕ) → AreDue P (nothing_present places sources) word
-none_due P places sources word =
-    let idle : (triggers : List Target) (m : ℕ) → list_any (λ trigger. is_some (present_at (nothing_present places sources) trigger)) triggers ≡ true → mark_at word m ≡ 1 =
-    λ triggers m h. let no : false ≡ true = sym (none_triggers places sources triggers) ∙ h in cc in
+pub none_due : (P : Program) (t : Moment) (places : Places) (sources : List ℕ) (word : ℕ) → AreDue P (nothing_present t places sources) word
+none_due P t places sources word =
+    let idle : (triggers : List Target) (m : ℕ) → list_any (λ trigger. is_some (present_at (nothing_present t places sources) trigger)) triggers ≡ true → mark_at word m ≡ 1 =
+    λ triggers m h. let no : false ≡ true = sym (none_triggers t places sources triggers) ∙ h in cc in
     record {
       reactions = λ n x at h. idle (reaction_heeds n x) (first_reaction + n) h;
       links = λ n x at h. idle (link_heeds n x) (first_link P + n) h;

@@ -24,27 +24,27 @@ use Rattle.warp_step.proofs.WorldLemmas.{own_target}
 -- the number of the place that has a number
 pub number_at : (n : ℕ) → place_number (numbered_place n) ≡ n
 number_at n =
-    let behind_actions = to.Port (n - 81) in
-    let behind_timers = if nat_lt n 81 then to.Action (n - 17) else behind_actions in
-    let behind_startup = if nat_lt n 17 then to.Timer (n - 1) else behind_timers in
+    let behind_actions = to.Port (n - 321) in
+    let behind_timers = if nat_lt n 321 then to.Action (n - 65) else behind_actions in
+    let behind_startup = if nat_lt n 65 then to.Timer (n - 1) else behind_timers in
     elim (cases_Bool (nat_eq n 0)) [
       | inl zero ↦ ap place_number (cond-true (nat_eq n 0) to.Startup behind_startup zero) ∙ sym (eqb-true n 0 zero)
       | inr some ↦
           let first = cond-false (nat_eq n 0) to.Startup behind_startup some in
           let more = eqb-false n 0 some in
-          elim (cases_Bool (nat_lt n 17)) [
+          elim (cases_Bool (nat_lt n 65)) [
             | inl timer ↦
                 let same : 1 + (n - 1) ≡ n = omega (arith, more) in
-                ap place_number (first ∙ cond-true (nat_lt n 17) (to.Timer (n - 1)) behind_timers timer) ∙ same
+                ap place_number (first ∙ cond-true (nat_lt n 65) (to.Timer (n - 1)) behind_timers timer) ∙ same
             | inr other ↦
-                let second = first ∙ cond-false (nat_lt n 17) (to.Timer (n - 1)) behind_timers other in
-                elim (cases_Bool (nat_lt n 81)) [
+                let second = first ∙ cond-false (nat_lt n 65) (to.Timer (n - 1)) behind_timers other in
+                elim (cases_Bool (nat_lt n 321)) [
                   | inl action ↦
-                      let same : 17 + (n - 17) ≡ n = omega (arith, ltb-false n 17 other) in
-                      ap place_number (second ∙ cond-true (nat_lt n 81) (to.Action (n - 17)) behind_actions action) ∙ same
+                      let same : 65 + (n - 65) ≡ n = omega (arith, ltb-false n 65 other) in
+                      ap place_number (second ∙ cond-true (nat_lt n 321) (to.Action (n - 65)) behind_actions action) ∙ same
                   | inr port ↦
-                      let same : 81 + (n - 81) ≡ n = omega (arith, ltb-false n 81 port) in
-                      ap place_number (second ∙ cond-false (nat_lt n 81) (to.Action (n - 17)) behind_actions port) ∙ same
+                      let same : 321 + (n - 321) ≡ n = omega (arith, ltb-false n 321 port) in
+                      ap place_number (second ∙ cond-false (nat_lt n 321) (to.Action (n - 65)) behind_actions port) ∙ same
                 ]
           ]
     ]
@@ -76,15 +76,15 @@ flags_more f g count k lt here others =
     ])
 
 -- nothing is heeded before the first trigger
-pub none_heeded : (sources : List ℕ) → replicate 337 false ≡ heeded sources []
+pub none_heeded : (sources : List ℕ) → replicate 1345 false ≡ heeded sources []
 unfolding place_numbers
 none_heeded sources =
     let never : ℕ → Bool = λ n. heeds sources [] (numbered_place n) in
-    let len : length (replicate 337 false) ≡ 337 = length-replicate 337 false in
-    let new_len : length (map never (range_with_len 0 most_places)) ≡ 337 = length-map-range_with_len never 0 most_places in
-    same_lists (replicate 337 false) (map never (range_with_len 0 most_places)) (len ∙ sym new_len) (λ j d within.
-    let below : j < 337 = omega (arith, within, len) in
-    get_or-replicate 337 j false d below ∙ sym (get_or-map-range_with_len never 0 most_places j j d below (omega arith)))
+    let len : length (replicate 1345 false) ≡ 1345 = length-replicate 1345 false in
+    let new_len : length (map never (range_with_len 0 most_places)) ≡ 1345 = length-map-range_with_len never 0 most_places in
+    same_lists (replicate 1345 false) (map never (range_with_len 0 most_places)) (len ∙ sym new_len) (λ j d within.
+    let below : j < 1345 = omega (arith, within, len) in
+    get_or-replicate 1345 j false d below ∙ sym (get_or-map-range_with_len never 0 most_places j j d below (omega arith)))
 
 -- with one trigger more its place is heeded
 pub heeded_more : (sources : List ℕ) (triggers : List Target) (i : ℕ) (trigger : Target) → i < length triggers → trigger ≡ get_or triggers i to.Startup

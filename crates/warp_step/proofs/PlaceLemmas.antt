@@ -24,27 +24,27 @@ place_within P (to.Port n) valid fits =
     omega (arith, few, ltb-true n (length P.ports) fits)
 
 -- a number that is a timer's, an action's or a port's
-timer_with : (n : ℕ) → n < 16 → numbered_place (1 + n) ≡ to.Timer n
+timer_with : (n : ℕ) → n < 64 → numbered_place (1 + n) ≡ to.Timer n
 timer_with n lt =
     let same : 1 + n - 1 ≡ n = omega arith in
     cond-false (nat_eq (1 + n) 0) to.Startup _ (ne_eqb (1 + n) 0 (λ h. omega (arith, h)))
-    ∙ cond-true (nat_lt (1 + n) 17) (to.Timer (1 + n - 1)) _ (lt-ltb (1 + n) 17 (omega arith))
+    ∙ cond-true (nat_lt (1 + n) 65) (to.Timer (1 + n - 1)) _ (lt-ltb (1 + n) 65 (omega arith))
     ∙ ap (λ (k : ℕ). to.Timer k) same
 
-action_with : (n : ℕ) → n < 64 → numbered_place (17 + n) ≡ to.Action n
+action_with : (n : ℕ) → n < 256 → numbered_place (65 + n) ≡ to.Action n
 action_with n lt =
-    let same : 17 + n - 17 ≡ n = omega arith in
-    cond-false (nat_eq (17 + n) 0) to.Startup _ (ne_eqb (17 + n) 0 (λ h. omega (arith, h)))
-    ∙ cond-false (nat_lt (17 + n) 17) (to.Timer (17 + n - 1)) _ (le-ltb (17 + n) 17 (omega arith))
-    ∙ cond-true (nat_lt (17 + n) 81) (to.Action (17 + n - 17)) _ (lt-ltb (17 + n) 81 (omega arith))
+    let same : 65 + n - 65 ≡ n = omega arith in
+    cond-false (nat_eq (65 + n) 0) to.Startup _ (ne_eqb (65 + n) 0 (λ h. omega (arith, h)))
+    ∙ cond-false (nat_lt (65 + n) 65) (to.Timer (65 + n - 1)) _ (le-ltb (65 + n) 65 (omega arith))
+    ∙ cond-true (nat_lt (65 + n) 321) (to.Action (65 + n - 65)) _ (lt-ltb (65 + n) 321 (omega arith))
     ∙ ap (λ (k : ℕ). to.Action k) same
 
-port_with : (n : ℕ) → numbered_place (81 + n) ≡ to.Port n
+port_with : (n : ℕ) → numbered_place (321 + n) ≡ to.Port n
 port_with n =
-    let same : 81 + n - 81 ≡ n = omega arith in
-    cond-false (nat_eq (81 + n) 0) to.Startup _ (ne_eqb (81 + n) 0 (λ h. omega (arith, h)))
-    ∙ cond-false (nat_lt (81 + n) 17) (to.Timer (81 + n - 1)) _ (le-ltb (81 + n) 17 (omega arith))
-    ∙ cond-false (nat_lt (81 + n) 81) (to.Action (81 + n - 17)) _ (le-ltb (81 + n) 81 (omega arith))
+    let same : 321 + n - 321 ≡ n = omega arith in
+    cond-false (nat_eq (321 + n) 0) to.Startup _ (ne_eqb (321 + n) 0 (λ h. omega (arith, h)))
+    ∙ cond-false (nat_lt (321 + n) 65) (to.Timer (321 + n - 1)) _ (le-ltb (321 + n) 65 (omega arith))
+    ∙ cond-false (nat_lt (321 + n) 321) (to.Action (321 + n - 65)) _ (le-ltb (321 + n) 321 (omega arith))
     ∙ ap (λ (k : ℕ). to.Port k) same
 
 pub place_with_own : (P : Program) (place : Target) → IsTrue (is_valid P) → IsTrue (target_fits (program_places P) place) → numbered_place (place_number place) ≡ place

@@ -2,18 +2,18 @@
 use Rattle.std.proofs.Common.{◌≡◌, ℕ, ◌≤◌, Bool, not, ◌&&◌, ◌==◌, nat_lt, nat_le, List, [], ◌∷◌, length, Option, Some, None, IsTrue, refl, ap, ◌∙◌, arith}
 use Rattle.std.specs.List.{list_all}
 use Rattle.std.proofs.lemmas.Bool.{and_parts, and_from, leb-true, le-leb}
-use Rattle.warp_tag.specs.Limits.{longest_period, longest_stop, most_origins, most_wishes, wider}
+use Rattle.warp_tag.specs.Limits.{longest_period, longest_stop, most_origins, most_wishes, wider, most_reactors, most_variables, most_ports, most_actions, most_timers, most_reactions, most_links, most_inputs, most_outputs}
 use Rattle.warp_tag.specs.Moment.{Moment}
 use Rattle.warp_tag.specs.declared.form.Form.{Form}
-use Rattle.warp_tag.proofs.Forms.{microstep_kept, origins_kept, period_kept, stop_kept}
-use Rattle.warp_body.specs.Term.{Term, Constant, VariableAt, ValueAt, PresentAt, OfOne, OfTwo, Choice}
-use Rattle.warp_body.specs.Effect.{Statement, SetVariable, PutOutput, ScheduleAction, Choose, Body, Done, Then, schedules_of}
+use Rattle.warp_tag.proofs.Forms.{microstep_kept, origins_kept, period_kept, stop_kept, reactors_kept, variables_kept, ports_kept, actions_kept, timers_kept, reactions_kept, links_kept, inputs_kept, outputs_kept}
+use Rattle.warp_body.specs.Term.{Term, Constant, VariableAt, ValueAt, PresentAt, OfOne, OfTwo, Choice, ProductOver, CellAt, TimeNow, MicrostepNow}
+use Rattle.warp_body.specs.Effect.{Statement, SetVariable, PutOutput, ScheduleAction, Choose, SetCell, Repeat, Body, Done, Then, schedules_of}
 use Rattle.warp_body.specs.declared.place.Target.{Target}
 use Rattle.warp_body.specs.declared.place.Target.TheVariants as to
 use Rattle.warp_step.specs.Events.{IsEventOf, IsNameOf, has_input, is_declared, is_in_time, owns_input}
 use Rattle.warp_step.specs.Order.{is_admissible, keeps_before, precedes}
 use Rattle.warp_step.specs.Program.{Program, Rule, raised_to, top_of}
-use Rattle.warp_step.specs.Valid.{body_may, has, have_reactors, is_distinct, is_readable, is_valid, is_within_limits, is_writable, leads_on, link_fits, names, owns_variable, rule_fits, statement_may, term_may}
+use Rattle.warp_step.specs.Valid.{body_may, has, have_reactors, is_distinct, is_readable, is_valid, is_within_limits, is_writable, leads_on, link_fits, names, owns_cells, owns_variable, rule_fits, statement_may, term_may}
 use Rattle.warp_step.specs.declared.parts.Action.{Action}
 use Rattle.warp_step.specs.declared.parts.Link.{Link}
 use Rattle.warp_step.specs.declared.parts.Timer.{Timer}
@@ -61,6 +61,14 @@ module _ (f : Form) (P : Program) where
       let one = term_in r a in
       let two = term_in r b in
       λ i. test i && one i && two i
+  term_in r (ProductOver a b c) =
+      let one = term_in r a in
+      let two = term_in r b in
+      let three = term_in r c in
+      λ i. one i && two i && three i
+  term_in r (CellAt first count index) = ap (λ (b : Bool). owns_cells P r.reactor first count && b) (term_in r index)
+  term_in r TimeNow = refl
+  term_in r MicrostepNow = refl
 
   keeps_in : (ns : List ℕ) → keeps_before (raised_to f P) ns ≡ keeps_before P ns
   keeps_in [] = refl
@@ -103,6 +111,13 @@ module _ (f : Form) (P : Program) where
         and_from (term_may (raised_to f P) r e && body_may (raised_to f P) r first) (body_may (raised_to f P) r second)
         (and_from (term_may (raised_to f P) r e) (body_may (raised_to f P) r first) (term_in r e ∙ inner.0) (body_in r first inner.1))
         (body_in r second outer.1)
+    statement_in r (SetCell first count index e) h =
+        let one = term_in r index in
+        let two = term_in r e in
+        (λ i. owns_cells P r.reactor first count && one i && two i) ∙ h
+    statement_in r (Repeat most e body) h =
+        let both = and_parts (term_may P r e) (body_may P r body) h in
+        and_from (term_may (raised_to f P) r e) (body_may (raised_to f P) r body) (term_in r e ∙ both.0) (body_in r body both.1)
 
     body_in : (r : Rule) (b : Body) → IsTrue (body_may P r b) → IsTrue (body_may (raised_to f P) r b)
     body_in r Done h = refl
@@ -149,7 +164,7 @@ module _ (f : Form) (P : Program) where
       (and_from (nat_lt t.reactor P.reactors) (nat_le t.offset (longest_period (wider f P.form))) inner.0 (period_in t.offset inner.1))
       (period_in t.period outer.1)
 
-  -- stop and origins are within limits
+  -- stop, origins and how much there is of each thing are within limits
   limits_in : IsTrue (is_within_limits P) → IsTrue (is_within_limits (raised_to f P))
   limits_in h =
       let a = and_parts _ _ h in
@@ -157,11 +172,28 @@ module _ (f : Form) (P : Program) where
       let c = and_parts _ _ b.0 in
       let d = and_parts _ _ c.0 in
       let e = and_parts _ _ d.0 in
-      let stop : IsTrue (nat_le P.stop (longest_stop (wider f P.form))) =
-      within P.stop (longest_stop P.form) (longest_stop (wider f P.form)) (stop_kept f P.form) e.0 in
-      let origins : IsTrue (nat_le P.origins (most_origins (wider f P.form))) =
-      within P.origins (most_origins P.form) (most_origins (wider f P.form)) (origins_kept f P.form) d.1 in
-      and_from _ _ (and_from _ _ (and_from _ _ (and_from _ _ (and_from _ _ stop e.1) origins) c.1) b.1) a.1
+      let g = and_parts _ _ c.1 in
+      let i = and_parts _ _ g.0 in
+      let j = and_parts _ _ b.1 in
+      let k = and_parts _ _ j.0 in
+      let l = and_parts _ _ a.1 in
+      let m = and_parts _ _ l.0 in
+      let stop = within P.stop (longest_stop P.form) (longest_stop (wider f P.form)) (stop_kept f P.form) e.0 in
+      let origins = within P.origins (most_origins P.form) (most_origins (wider f P.form)) (origins_kept f P.form) d.1 in
+      let reactors = within P.reactors (most_reactors P.form) (most_reactors (wider f P.form)) (reactors_kept f P.form) i.0 in
+      let variables = within (length P.variables) (most_variables P.form) (most_variables (wider f P.form)) (variables_kept f P.form) i.1 in
+      let ports = within (length P.ports) (most_ports P.form) (most_ports (wider f P.form)) (ports_kept f P.form) g.1 in
+      let actions = within (length P.actions) (most_actions P.form) (most_actions (wider f P.form)) (actions_kept f P.form) k.0 in
+      let timers = within (length P.timers) (most_timers P.form) (most_timers (wider f P.form)) (timers_kept f P.form) k.1 in
+      let reactions = within (length P.reactions) (most_reactions P.form) (most_reactions (wider f P.form)) (reactions_kept f P.form) j.1 in
+      let links = within (length P.links) (most_links P.form) (most_links (wider f P.form)) (links_kept f P.form) m.0 in
+      let inputs = within (length P.inputs) (most_inputs P.form) (most_inputs (wider f P.form)) (inputs_kept f P.form) m.1 in
+      let outputs = within (length P.outputs) (most_outputs P.form) (most_outputs (wider f P.form)) (outputs_kept f P.form) l.1 in
+      let first = and_from _ _ (and_from _ _ stop e.1) origins in
+      let second = and_from _ _ (and_from _ _ reactors variables) ports in
+      let third = and_from _ _ (and_from _ _ actions timers) reactions in
+      let fourth = and_from _ _ (and_from _ _ links inputs) outputs in
+      and_from _ _ (and_from _ _ (and_from _ _ first second) third) fourth
 
   reactors_in : IsTrue (have_reactors P) → IsTrue (have_reactors (raised_to f P))
   reactors_in h =

@@ -174,7 +174,7 @@ module _ (f : Form) (P : Program) where
   arrived_in (g ∷ gs) present = arrived_in gs (with_value (to.Port (port_of P g.input)) g.value present)
 
   first_in : (s : Snapshot) (t : Moment) (X : List Given) → present_first (raised_to f P) s t X ≡ present_first P s t X
-  first_in s t X = arrived_in X (arrived_entries (filter (λ w. is_same w.tag t) s.pending) (absent P))
+  first_in s t X = arrived_in X (arrived_entries (filter (λ w. is_same w.tag t) s.pending) (absent P t))
 
   reacted_in : (s : Snapshot) (t : Moment) (X : List Given) → reacted (raised_to f P) s t X ≡ reacted P s t X
   reacted_in s t X =

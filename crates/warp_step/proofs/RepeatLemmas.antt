@@ -16,8 +16,8 @@ use Rattle.warp_step.specs.inner.Due.{AreDue}
 use Rattle.warp_step.proofs.DueLemmas.{none_at, none_due}
 
 -- the places where nothing of a program is present are the program's
-pub absent_places : (P : Program) → places_of (absent P) ≡ program_places P
-absent_places P = λ i. record {
+pub absent_places : (P : Program) (t : Moment) → places_of (absent P t) ≡ program_places P
+absent_places P t = λ i. record {
   timers = length-replicate {A = Option ℤ} (length P.timers) None i;
   actions = length-replicate {A = Option ℤ} (length P.actions) None i;
   ports = length-replicate {A = Option ℤ} (length P.ports) None i;
@@ -56,9 +56,9 @@ module _ (P : Program) (t : Moment) (present : Presence) where
       ∙ none_repeats (number + 1) ts s none
 
 -- where nothing is present, no timer repeats
-pub none_alone : (P : Program) (t : Moment) (s : Snapshot) → with_repeats P t (absent P) 0 P.timers s ≡ s
-none_alone P t s = none_repeats P t (absent P) 0 P.timers s (none_at (length P.timers))
+pub none_alone : (P : Program) (t : Moment) (s : Snapshot) → with_repeats P t (absent P t) 0 P.timers s ≡ s
+none_alone P t s = none_repeats P t (absent P t) 0 P.timers s (none_at (length P.timers))
 
 -- where nothing is present, any marks do
-pub absent_due : (P : Program) (present : Presence) (word : ℕ) → present ≡ absent P → AreDue P present word
-absent_due P present word is = subst (λ (p : Presence). AreDue P p word) (sym is) (none_due P (program_places P) (sources_of P) word)
+pub absent_due : (P : Program) (t : Moment) (present : Presence) (word : ℕ) → present ≡ absent P t → AreDue P present word
+absent_due P t present word is = subst (λ (p : Presence). AreDue P p word) (sym is) (none_due P t (program_places P) (sources_of P) word)

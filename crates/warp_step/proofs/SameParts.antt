@@ -3,13 +3,13 @@ use Rattle.std.proofs.Common.{◌≡◌, ℕ, Bool, not, ◌&&◌, ◌==◌, nat
 use Rattle.std.specs.List.{list_all}
 use Rattle.std.proofs.lemmas.Bool.{and_parts, and_from}
 use Rattle.warp_tag.specs.Limits.{longest_period, most_wishes}
-use Rattle.warp_body.specs.Term.{Term, Constant, VariableAt, ValueAt, PresentAt, OfOne, OfTwo, Choice}
-use Rattle.warp_body.specs.Effect.{Statement, SetVariable, PutOutput, ScheduleAction, Choose, Body, Done, Then, schedules_of}
+use Rattle.warp_body.specs.Term.{Term, Constant, VariableAt, ValueAt, PresentAt, OfOne, OfTwo, Choice, ProductOver, CellAt, TimeNow, MicrostepNow}
+use Rattle.warp_body.specs.Effect.{Statement, SetVariable, PutOutput, ScheduleAction, Choose, SetCell, Repeat, Body, Done, Then, schedules_of}
 use Rattle.warp_body.specs.declared.place.Target.{Target}
 use Rattle.warp_body.specs.declared.place.Target.TheVariants as to
 use Rattle.warp_step.specs.Order.{in_order, is_admissible, keeps_before, precedes}
 use Rattle.warp_step.specs.Program.{Program, Rule}
-use Rattle.warp_step.specs.Valid.{body_may, has, have_reactors, is_distinct, is_readable, is_valid, is_within_limits, is_writable, leads_on, link_fits, names, owns_variable, rule_fits, statement_may, term_may}
+use Rattle.warp_step.specs.Valid.{body_may, has, have_reactors, is_distinct, is_readable, is_valid, is_within_limits, is_writable, leads_on, link_fits, names, owns_cells, owns_variable, rule_fits, statement_may, term_may}
 use Rattle.warp_step.specs.declared.parts.Link.{Link}
 use Rattle.warp_step.proofs.ValidLemmas.{validity}
 
@@ -41,6 +41,14 @@ module _ (P : Program) (order : List ℕ) where
       let one = term_in r a in
       let two = term_in r b in
       λ i. test i && one i && two i
+  term_in r (ProductOver a b c) =
+      let one = term_in r a in
+      let two = term_in r b in
+      let three = term_in r c in
+      λ i. one i && two i && three i
+  term_in r (CellAt first count index) = ap (λ (b : Bool). owns_cells P r.reactor first count && b) (term_in r index)
+  term_in r TimeNow = refl
+  term_in r MicrostepNow = refl
 
   mutual
     statement_in : (r : Rule) (s : Statement) → statement_may (in_order P order) r s ≡ statement_may P r s
@@ -53,6 +61,14 @@ module _ (P : Program) (order : List ℕ) where
         let one = body_in r first in
         let two = body_in r second in
         λ i. test i && one i && two i
+    statement_in r (SetCell first count index e) =
+        let one = term_in r index in
+        let two = term_in r e in
+        λ i. owns_cells P r.reactor first count && one i && two i
+    statement_in r (Repeat most e body) =
+        let test = term_in r e in
+        let all = body_in r body in
+        λ i. test i && all i
 
     body_in : (r : Rule) (b : Body) → body_may (in_order P order) r b ≡ body_may P r b
     body_in r Done = refl

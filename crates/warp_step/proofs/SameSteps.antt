@@ -75,12 +75,12 @@ module _ (P : Program) (order : List ℕ) where
 
 module _ (P : Program) (order : List ℕ) (valid : IsTrue (is_valid P)) (admissible : IsTrue (is_admissible P order)) where
   first_same : (s : Snapshot) (t : Moment) (X : List Given) → present_first (in_order P order) s t X ≡ present_first P s t X
-  first_same s t X = arrived_in P order X (arrived_entries (filter (λ w. is_same w.tag t) s.pending) (absent P))
+  first_same s t X = arrived_in P order X (arrived_entries (filter (λ w. is_same w.tag t) s.pending) (absent P t))
 
   first_sources : (s : Snapshot) (t : Moment) (X : List Given) → (present_first P s t X).sources ≡ sources_of P
   first_sources s t X =
       let entries = filter (λ w. is_same w.tag t) s.pending in
-      arrived_sources P X (arrived_entries entries (absent P)) ∙ entries_sources entries (absent P)
+      arrived_sources P X (arrived_entries entries (absent P t)) ∙ entries_sources entries (absent P t)
 
   reacted_same : (s : Snapshot) (t : Moment) (X : List Given) → reacted (in_order P order) s t X ≡ reacted P s t X
   reacted_same s t X =

@@ -20,11 +20,11 @@ same_delays None (Some n) = (λ e. cc, λ e. cc)
 same_delays (Some m) None = (λ e. cc, λ e. cc)
 same_delays (Some m) (Some n) = Decides-like (nat_eq m n) (λ e. ap (λ (k : ℕ). Some k) e) (λ e. cc) (Decides-eqb m n)
 
-pub same_variable : (a b : Variable) → Decides (nat_eq a.reactor b.reactor && int_eq a.start b.start) (a ≡ b)
+pub same_variable : (a b : Variable) → Decides (nat_eq a.reactor b.reactor && (beq a.is_told b.is_told && int_eq a.start b.start)) (a ≡ b)
 same_variable a b =
-    Decides-like _ (λ p i. record { reactor = p.0 i; start = p.1 i })
-    (λ e. (ap (λ (v : Variable). v.reactor) e, ap (λ (v : Variable). v.start) e))
-    (Decides-and _ _ (Decides-eqb a.reactor b.reactor) (Decides-int_eq a.start b.start))
+    Decides-like _ (λ p i. record { reactor = p.0 i; is_told = p.1.0 i; start = p.1.1 i })
+    (λ e. (ap (λ (v : Variable). v.reactor) e, (ap (λ (v : Variable). v.is_told) e, ap (λ (v : Variable). v.start) e)))
+    (Decides-and _ _ (Decides-eqb a.reactor b.reactor) (Decides-and _ _ (booleans_Decides a.is_told b.is_told) (Decides-int_eq a.start b.start)))
 
 pub same_port : (a b : Port) → Decides (nat_eq a.reactor b.reactor && beq a.is_input b.is_input) (a ≡ b)
 same_port a b =

@@ -21,12 +21,12 @@ use Rattle.warp_step.proofs.TagsOfStep.{later}
 use Rattle.warp_step.proofs.TargetsOfStep.{step_is}
 
 -- what is cleared, of the program's places and sources, is absent
-pub cleared : (P : Program) (places : Places) (sources : List ℕ) → places ≡ program_places P → sources ≡ sources_of P → nothing_present places sources ≡ absent P
-cleared P places sources h k = rw (h, k) refl
+pub cleared : (P : Program) (t : Moment) (places : Places) (sources : List ℕ) → places ≡ program_places P → sources ≡ sources_of P → nothing_present t places sources ≡ absent P t
+cleared P t places sources h k = rw (h, k) refl
 
 -- what is cleared keeps its places
-pub cleared_places : (present : Presence) → places_of (nothing_present (places_of present) present.sources) ≡ places_of present
-cleared_places present = λ i. record {
+pub cleared_places : (t : Moment) (present : Presence) → places_of (nothing_present t (places_of present) present.sources) ≡ places_of present
+cleared_places t present = λ i. record {
   timers = length-replicate {A = Option ℤ} (length present.timers) None i;
   actions = length-replicate {A = Option ℤ} (length present.actions) None i;
   ports = length-replicate {A = Option ℤ} (length present.ports) None i;

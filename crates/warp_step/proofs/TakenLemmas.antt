@@ -207,7 +207,7 @@ order_here t (w ∷ ws) ordered = elim (cases_Bool (is_same w.tag t)) [
 
 -- so where they arrive alone, the timers that repeat are those among them
 pub repeat_here : (P : Program) (t : Moment) (ws : List Waiting) (s : Snapshot) (present : Presence) → AreInOrder ws
-    → IsTrue (list_all (λ w. target_fits (program_places P) w.target) ws) → present ≡ arrived_entries (here t ws) (absent P)
+    → IsTrue (list_all (λ w. target_fits (program_places P) w.target) ws) → present ≡ arrived_entries (here t ws) (absent P t)
     → with_repeats P t present 0 P.timers s ≡ again_each P t (targets (here t ws)) s
 repeat_here P t ws s present ordered fits arrives =
     ap (λ (p : Presence). with_repeats P t p 0 P.timers s) arrives

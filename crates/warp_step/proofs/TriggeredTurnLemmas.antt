@@ -6,7 +6,7 @@ use Rattle.std.proofs.lemmas.Bool.{cases_Bool, cond-true, cond-false, ltb-true, 
 use Rattle.std.proofs.lemmas.List.{get_or-set_same}
 use Rattle.std.proofs.lemmas.List.FromFn.{get_or-map-range_with_len}
 use Rattle.std.proofs.lemmas.Option.{slice_get_past}
-use Rattle.warp_tag.specs.Limits.{most_reactions}
+use Rattle.warp_tag.specs.Limits.{most_reactions, widest}
 use Rattle.warp_body.specs.Presence.{Presence, is_target, places_of, present_at, target_fits, with_value}
 use Rattle.warp_body.specs.declared.place.Target.{Target}
 use Rattle.warp_body.specs.declared.place.Target.TheVariants as to
@@ -99,7 +99,7 @@ sure_after P target v before after triggered_turn own fits arrives is = λ rule 
     ap (λ (p : Presence). list_any (λ trigger. is_some (present_at p trigger)) rule.triggers) arrives ∙ here
 
 -- A turn that no reaction has is sure in vain.
-pub none_sure : (P : Program) (present : Presence) (triggered_turn : ℕ) → IsTrue (is_valid P) → most_reactions ≤ triggered_turn → IsTriggeredTurn P present triggered_turn
+pub none_sure : (P : Program) (present : Presence) (triggered_turn : ℕ) → IsTrue (is_valid P) → most_reactions widest ≤ triggered_turn → IsTriggeredTurn P present triggered_turn
 none_sure P present triggered_turn valid beyond = λ rule at.
     let few = few_turns P valid in
     let none = slice_get_past (in_turn P) triggered_turn (omega (arith, few, beyond)) in

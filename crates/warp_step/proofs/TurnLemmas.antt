@@ -5,7 +5,7 @@ use Rattle.std.specs.List.{list_all, list_any}
 use Rattle.std.proofs.lemmas.Bool.{and_parts, eq-eqb, eqb-true, ltb-true, or_left, or_right}
 use Rattle.std.proofs.lemmas.List.{get_or-map, length-map}
 use Rattle.std.proofs.lemmas.Option.{slice_get-get_or}
-use Rattle.warp_tag.specs.Limits.{most_reactions}
+use Rattle.warp_tag.specs.Limits.{most_reactions, widest}
 use Rattle.warp_step.specs.inner.Plan.{in_turn, rule_numbered}
 use Rattle.warp_step.specs.Order.{is_admissible, keeps_before}
 use Rattle.warp_step.specs.Program.{Program}
@@ -30,9 +30,9 @@ pub own_order : (P : Program) → IsTrue (is_valid P) → Admissible P P.order
 own_order P valid = admissible P P.order (validity P valid).order
 
 -- there are few turns
-pub few_turns : (P : Program) → IsTrue (is_valid P) → length (in_turn P) ≤ most_reactions
+pub few_turns : (P : Program) → IsTrue (is_valid P) → length (in_turn P) ≤ most_reactions widest
 few_turns P valid =
-    let few : length P.reactions ≤ most_reactions = (validity P valid).limits.reactions in
+    let few : length P.reactions ≤ most_reactions widest = (validity P valid).limits.reactions in
     let whole = (own_order P valid).whole in
     let same = length-map P.order (rule_numbered P.reactions) in
     omega (arith, few, whole, same)

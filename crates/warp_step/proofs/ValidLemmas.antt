@@ -1,5 +1,5 @@
 -- What a valid program's numbers are good for.
-use Rattle.std.proofs.Common.{◌≡◌, ℕ, zero, suc, ◌<◌, ◌≤◌, Bool, true, false, ◌&&◌, ◌++◌, List, [], ◌∷◌, length, map, get_or, nat_lt, nat_le, not, arith, IsTrue, Option, Some, None, refl, sym, ap, ◌∙◌, subst, inl, inr}
+use Rattle.std.proofs.Common.{◌≡◌, ◌==◌, drop, take, ◌+◌, ℕ, zero, suc, ◌<◌, ◌≤◌, Bool, true, false, ◌&&◌, ◌++◌, List, [], ◌∷◌, length, map, get_or, nat_lt, nat_le, not, arith, IsTrue, Option, Some, None, refl, sym, ap, ◌∙◌, subst, inl, inr}
 use Rattle.std.specs.List.{list_all, list_any}
 use Rattle.std.specs.Option.{IfSome}
 use Rattle.std.proofs.lemmas.Bool.{cases_Bool, and_parts, and_from, or_cases, ltb-true, leb-true, eqb-true, lt-ltb, le-leb}
@@ -7,21 +7,22 @@ use Rattle.std.proofs.lemmas.List.{get_or-map}
 use Rattle.std.proofs.lemmas.List.Folds.{list_all_at, list_all-append}
 use Rattle.std.proofs.lemmas.Option.{slice_get-get_or}
 use Rattle.warp_tag.specs.Limits.{widest, longest_stop, longest_period, last_microstep, most_origins, most_reactors, most_variables, most_ports, most_actions, most_timers, most_reactions, most_links, most_inputs, most_outputs, most_wishes}
-use Rattle.warp_tag.proofs.Forms.{stop_widens, microstep_widens, period_widens, origins_widen}
+use Rattle.warp_tag.proofs.Forms.{stop_widens, microstep_widens, period_widens, origins_widen, reactors_widen, variables_widen, ports_widen, actions_widen, timers_widen, reactions_widen, links_widen, inputs_widen, outputs_widen}
 use Rattle.warp_body.specs.Codes.{target_at, target_at-own}
 use Rattle.warp_body.specs.Presence.{is_target, target_fits, kind_of, number_of}
-use Rattle.warp_body.specs.Term.{Term, Constant, VariableAt, ValueAt, PresentAt, OfOne, OfTwo, Choice, term_fits}
-use Rattle.warp_body.specs.Effect.{Statement, SetVariable, PutOutput, ScheduleAction, Choose, Body, Done, Then, schedules_of, statement_fits, body_fits}
+use Rattle.warp_body.specs.Term.{Term, Constant, VariableAt, ValueAt, PresentAt, OfOne, OfTwo, Choice, ProductOver, CellAt, TimeNow, MicrostepNow, term_fits}
+use Rattle.warp_body.specs.Effect.{Statement, SetVariable, PutOutput, ScheduleAction, Choose, SetCell, Repeat, Body, Done, Then, schedules_of, statement_fits, body_fits}
 use Rattle.warp_body.specs.declared.place.Target.{Target}
 use Rattle.warp_body.specs.declared.place.Target.TheVariants as to
 use Rattle.warp_step.specs.Program.{Program, Rule, delay_of, top_of}
 use Rattle.warp_step.specs.Step.{port_of}
-use Rattle.warp_step.specs.Valid.{is_valid, is_within_limits, is_distinct, is_rising, fed, has, names, is_readable, is_writable, owns_variable, term_may, statement_may, body_may, rule_fits, link_fits, leads_on, input_fits, program_places, program_sizes}
+use Rattle.warp_step.specs.Valid.{is_valid, is_within_limits, is_distinct, is_rising, fed, has, names, is_readable, is_writable, owns_cells, owns_variable, term_may, statement_may, body_may, rule_fits, link_fits, leads_on, input_fits, program_places, program_sizes}
 use Rattle.warp_step.specs.Order.{is_admissible}
 use Rattle.warp_step.specs.declared.parts.Action.{Action}
 use Rattle.warp_step.specs.declared.parts.Link.{Link}
 use Rattle.warp_step.specs.declared.parts.ProgramInput.{ProgramInput}
 use Rattle.warp_step.specs.declared.parts.Timer.{Timer}
+use Rattle.warp_step.specs.declared.parts.Variable.{Variable}
 
 -- what a test of all elements says of the one at an index
 pub list_all_get : {X : Type 0} (p : X → Bool) (xs : List X) (i : ℕ) (d : X) → IsTrue (list_all p xs) → i < length xs → IsTrue (p (get_or xs i d))
@@ -43,15 +44,18 @@ pub record Limited (P : Program) : Type 0 where
   pub top : top_of P ≤ last_microstep widest
   pub origins_some : 1 ≤ P.origins
   pub origins : P.origins ≤ most_origins widest
-  pub reactors : P.reactors ≤ most_reactors
-  pub variables : length P.variables ≤ most_variables
-  pub ports : length P.ports ≤ most_ports
-  pub actions : length P.actions ≤ most_actions
-  pub timers : length P.timers ≤ most_timers
-  pub reactions : length P.reactions ≤ most_reactions
-  pub links : length P.links ≤ most_links
-  pub inputs : length P.inputs ≤ most_inputs
-  pub outputs : length P.outputs ≤ most_outputs
+  pub reactors : P.reactors ≤ most_reactors widest
+  pub variables : length P.variables ≤ most_variables widest
+  pub ports : length P.ports ≤ most_ports widest
+  pub actions : length P.actions ≤ most_actions widest
+  pub timers : length P.timers ≤ most_timers widest
+  pub reactions : length P.reactions ≤ most_reactions widest
+  pub links : length P.links ≤ most_links widest
+  pub inputs : length P.inputs ≤ most_inputs widest
+  pub outputs : length P.outputs ≤ most_outputs widest
+
+up : (n a b : ℕ) → n ≤ a → a ≤ b → n ≤ b
+up n a b small wide = omega (small, wide, arith)
 
 limited : (P : Program) → IsTrue (is_within_limits P) → Limited P
 limited P h =
@@ -68,22 +72,20 @@ limited P h =
     let m = and_parts _ _ l.0 in
     let stop : P.stop ≤ longest_stop P.form = leb-true _ _ e.0 in
     let origins : P.origins ≤ most_origins P.form = leb-true _ _ d.1 in
-    let stops = stop_widens P.form in
-    let many = origins_widen P.form in
     record {
-      stop = omega (arith, stop, stops);
+      stop = up P.stop (longest_stop P.form) (longest_stop widest) stop (stop_widens P.form);
       top = microstep_widens P.form;
       origins_some = leb-true _ _ e.1;
-      origins = omega (arith, origins, many);
-      reactors = leb-true _ _ i.0;
-      variables = leb-true _ _ i.1;
-      ports = leb-true _ _ g.1;
-      actions = leb-true _ _ k.0;
-      timers = leb-true _ _ k.1;
-      reactions = leb-true _ _ j.1;
-      links = leb-true _ _ m.0;
-      inputs = leb-true _ _ m.1;
-      outputs = leb-true _ _ l.1;
+      origins = up P.origins (most_origins P.form) (most_origins widest) origins (origins_widen P.form);
+      reactors = up P.reactors (most_reactors P.form) (most_reactors widest) (leb-true P.reactors (most_reactors P.form) i.0) (reactors_widen P.form);
+      variables = up (length P.variables) (most_variables P.form) (most_variables widest) (leb-true (length P.variables) (most_variables P.form) i.1) (variables_widen P.form);
+      ports = up (length P.ports) (most_ports P.form) (most_ports widest) (leb-true (length P.ports) (most_ports P.form) g.1) (ports_widen P.form);
+      actions = up (length P.actions) (most_actions P.form) (most_actions widest) (leb-true (length P.actions) (most_actions P.form) k.0) (actions_widen P.form);
+      timers = up (length P.timers) (most_timers P.form) (most_timers widest) (leb-true (length P.timers) (most_timers P.form) k.1) (timers_widen P.form);
+      reactions = up (length P.reactions) (most_reactions P.form) (most_reactions widest) (leb-true (length P.reactions) (most_reactions P.form) j.1) (reactions_widen P.form);
+      links = up (length P.links) (most_links P.form) (most_links widest) (leb-true (length P.links) (most_links P.form) m.0) (links_widen P.form);
+      inputs = up (length P.inputs) (most_inputs P.form) (most_inputs widest) (leb-true (length P.inputs) (most_inputs P.form) m.1) (inputs_widen P.form);
+      outputs = up (length P.outputs) (most_outputs P.form) (most_outputs widest) (leb-true (length P.outputs) (most_outputs P.form) l.1) (outputs_widen P.form);
     }
 
 -- a valid program's limits and parts
@@ -240,6 +242,36 @@ record Named (P : Program) (r : Rule) : Type 0 where
   pub readable : IsTrue (list_all (target_fits (program_places P)) (r.triggers ++ r.reads))
   pub writable : IsTrue (list_all (target_fits (program_places P)) r.writes)
 
+-- the cells of a reactor are variables of the program
+cells_fit : (P : Program) (reactor first count : ℕ) → IsTrue (owns_cells P reactor first count) → IsTrue (nat_le (first + count) (length P.variables))
+cells_fit P reactor first count h =
+    (and_parts (nat_le (first + count) (length P.variables)) (list_all (λ v. v.reactor == reactor) (take count (drop first P.variables))) h).0
+
+-- and each of them is the reactor's
+front_has : {X : Type 0} (test : X → Bool) (xs : List X) (count n : ℕ) → count ≤ length xs → IsTrue (list_all test (take count xs)) → n < count
+    → IsTrue (has xs n test)
+front_has test xs zero n le all lt = absurd (omega (lt, arith))
+front_has test [] (suc count) n le all lt = absurd (omega (le, arith))
+front_has test (x ∷ xs) (suc count) zero le all lt = (and_parts (test x) (list_all test (take count xs)) all).0
+front_has test (x ∷ xs) (suc count) (suc n) le all lt =
+    front_has test xs count n (omega (le, arith)) (and_parts (test x) (list_all test (take count xs)) all).1 (omega (lt, arith))
+
+range_has : {X : Type 0} (test : X → Bool) (xs : List X) (first count n k : ℕ) → k ≡ first + n → first + count ≤ length xs
+    → IsTrue (list_all test (take count (drop first xs))) → n < count → IsTrue (has xs k test)
+range_has test xs zero count n k is le all lt =
+    let same : n ≡ k = omega (is, arith) in
+    subst (λ (i : ℕ). IsTrue (has xs i test)) same (front_has test xs count n (omega (le, arith)) all lt)
+range_has test [] (suc first) count n k is le all lt = absurd (omega (le, arith))
+range_has test (x ∷ xs) (suc first) count n zero is le all lt = absurd (omega (is, arith))
+range_has test (x ∷ xs) (suc first) count n (suc k) is le all lt = range_has test xs first count n k (omega (is, arith)) (omega (le, arith)) all lt
+
+pub owned_cell : (P : Program) (reactor first count n : ℕ) → IsTrue (owns_cells P reactor first count) → nat_lt n count ≡ true
+    → IsTrue (owns_variable P reactor (first + n))
+owned_cell P reactor first count n h below =
+    let own = λ (v : Variable). v.reactor == reactor in
+    let both = and_parts (nat_le (first + count) (length P.variables)) (list_all own (take count (drop first P.variables))) h in
+    range_has own P.variables first count n (first + n) refl (leb-true (first + count) (length P.variables) both.0) both.1 (ltb-true n count below)
+
 -- an expression, a statement and a body that may be in a rule fit the program's sizes
 term_in : (P : Program) (r : Rule) → Named P r → (t : Term) → IsTrue (term_may P r t) → IsTrue (term_fits (program_sizes P) t)
 term_in P r n (Constant v) h = refl
@@ -254,6 +286,15 @@ term_in P r n (Choice c a b) h =
     let outer = and_parts (term_may P r c && term_may P r a) (term_may P r b) h in
     let inner = and_parts (term_may P r c) (term_may P r a) outer.0 in
     and_from _ _ (and_from _ _ (term_in P r n c inner.0) (term_in P r n a inner.1)) (term_in P r n b outer.1)
+term_in P r n (ProductOver a b c) h =
+    let outer = and_parts (term_may P r a && term_may P r b) (term_may P r c) h in
+    let inner = and_parts (term_may P r a) (term_may P r b) outer.0 in
+    and_from _ _ (and_from _ _ (term_in P r n a inner.0) (term_in P r n b inner.1)) (term_in P r n c outer.1)
+term_in P r n (CellAt first count index) h =
+    let both = and_parts (owns_cells P r.reactor first count) (term_may P r index) h in
+    and_from _ _ (cells_fit P r.reactor first count both.0) (term_in P r n index both.1)
+term_in P r n TimeNow h = refl
+term_in P r n MicrostepNow h = refl
 
 mutual
   statement_in : (P : Program) (r : Rule) → Named P r → (s : Statement) → IsTrue (statement_may P r s) → IsTrue (statement_fits (program_sizes P) s)
@@ -274,6 +315,13 @@ mutual
       let outer = and_parts (term_may P r e && body_may P r first) (body_may P r second) h in
       let inner = and_parts (term_may P r e) (body_may P r first) outer.0 in
       and_from _ _ (and_from _ _ (term_in P r n e inner.0) (body_in P r n first inner.1)) (body_in P r n second outer.1)
+  statement_in P r n (SetCell first count index e) h =
+      let outer = and_parts (owns_cells P r.reactor first count && term_may P r index) (term_may P r e) h in
+      let inner = and_parts (owns_cells P r.reactor first count) (term_may P r index) outer.0 in
+      and_from _ _ (and_from _ _ (cells_fit P r.reactor first count inner.0) (term_in P r n index inner.1)) (term_in P r n e outer.1)
+  statement_in P r n (Repeat most e body) h =
+      let both = and_parts (term_may P r e) (body_may P r body) h in
+      and_from _ _ (term_in P r n e both.0) (body_in P r n body both.1)
 
   body_in : (P : Program) (r : Rule) → Named P r → (b : Body) → IsTrue (body_may P r b) → IsTrue (body_fits (program_sizes P) b)
   body_in P r n Done h = refl

@@ -11,8 +11,10 @@ use Rattle.warp_tag.specs.Landing.{landing}
 use Rattle.warp_tag.specs.Table.{Event}
 use Rattle.warp_tag.specs.declared.tag.Landing.{Landing}
 use Rattle.warp_tag.specs.declared.tag.Landing.TheVariants.{At, PastStop, PastMicro}
-use Rattle.warp_body.specs.Effect.{Statement, SetVariable, PutOutput, ScheduleAction, Choose, Body, Done, Then, Effect, effect_of, effect_of_one}
+use Rattle.warp_body.specs.Effect.{Statement, SetVariable, PutOutput, ScheduleAction, Choose, SetCell, Repeat, Body, Done, Then, Effect, effect_of, effect_of_one, holds}
 use Rattle.warp_body.specs.Presence.{Presence, present_at}
+use Rattle.warp_body.proofs.CellLemmas.{length_cell}
+use Rattle.warp_body.proofs.Turns.{turns_keep}
 use Rattle.warp_body.specs.Term.{value_of, is_true}
 use Rattle.warp_body.specs.declared.place.Target.{Target}
 use Rattle.warp_body.specs.declared.place.Target.TheVariants as to
@@ -39,6 +41,10 @@ mutual
   one_vars (Choose e first second) now =
       chosen (is_true (value_of e now.vars now.present)) (effect_of first now) (effect_of second now) (length now.vars)
       (effect_vars first now) (effect_vars second now)
+  one_vars (SetCell first count index e) now =
+      length_cell now.vars first count (value_of index now.vars now.present) (value_of e now.vars now.present)
+  one_vars (Repeat most e body) now =
+      turns_keep (λ (x : Effect). length x.vars ≡ length now.vars) (holds e) (effect_of body) (λ x h. effect_vars body x ∙ h) most now refl
 
   effect_vars : (b : Body) (now : Effect) → length (effect_of b now).vars ≡ length now.vars
   effect_vars Done now = refl

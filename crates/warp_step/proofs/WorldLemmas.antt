@@ -1,23 +1,26 @@
 -- A change of variables and presence that a reaction neither sees nor undoes may come before the reaction or after it.
-use Rattle.std.proofs.Common.{◌≡◌, ◌≢◌, inl, inr, ℕ, ℤ, pos, zero, suc, Bool, true, false, ◌&&◌, ◌||◌, List, [], ◌∷◌, ◌++◌, set, Option, Some, is_some, IsTrue, if◌then◌else◌, refl, sym, ap, ◌∙◌}
+use Rattle.std.proofs.Common.{◌≡◌, ◌≢◌, inl, inr, ℕ, ℤ, pos, negsuc, ◌+◌, nat_lt, zero, suc, Bool, true, false, ◌&&◌, ◌||◌, List, [], ◌∷◌, ◌++◌, set, Option, Some, is_some, IsTrue, if◌then◌else◌, refl, sym, ap, ◌∙◌}
 use Rattle.std.specs.Prelude.{slice_index_or, slice_set, unwrap_or}
 use Rattle.std.specs.List.{list_any}
 use Rattle.std.proofs.lemmas.Bool.{cases_Bool, and_parts, and_from, eq-eqb, or_cases, or_left, or_right}
 use Rattle.std.proofs.lemmas.List.{get_or-set_other}
+use Rattle.warp_tag.specs.Moment.{Moment}
+use Rattle.warp_body.specs.Cell.{cell, with_cell}
 use Rattle.warp_body.specs.Presence.{is_target, kind_of, number_of, present_at}
-use Rattle.warp_body.specs.Effect.{Statement, SetVariable, PutOutput, ScheduleAction, Choose, Body, Done, Then, Effect, effect_of, effect_of_one}
-use Rattle.warp_body.specs.Term.{Term, Constant, VariableAt, ValueAt, PresentAt, OfOne, OfTwo, Choice, as_number, is_true, result_of_one, result_of_two, value_of}
+use Rattle.warp_body.specs.Effect.{Statement, SetVariable, PutOutput, ScheduleAction, Choose, SetCell, Repeat, Body, Done, Then, Effect, effect_of, effect_of_one, holds}
+use Rattle.warp_body.specs.Term.{Term, Constant, VariableAt, ValueAt, PresentAt, OfOne, OfTwo, Choice, ProductOver, CellAt, TimeNow, MicrostepNow, as_number, is_true, result_of_one, result_of_two, quotient_of_product, value_of}
 use Rattle.warp_body.specs.declared.place.Target.{Target}
 use Rattle.warp_body.specs.declared.place.Target.TheVariants as to
 use Rattle.warp_body.specs.declared.stmt.Wish.{Wish}
 use Rattle.warp_step.specs.inner.Plan.{heeds, place_of}
-use Rattle.warp_step.specs.inner.World.{World, after_rule, begun, changed, in_world, set_if, wished_by, with_port, with_variable, world_in, world_of}
+use Rattle.warp_step.specs.inner.World.{World, after_rule, begun, changed, in_world, set_if, wished_by, with_cell_in, with_port, with_variable, world_in, world_of}
 use Rattle.warp_step.specs.Program.{Program, Rule}
 use Rattle.warp_step.specs.Step.{Reacting, is_triggered, react}
-use Rattle.warp_step.specs.Valid.{body_may, names, owns_variable, rule_fits, statement_may, term_may}
+use Rattle.warp_step.specs.Valid.{body_may, names, owns_cells, owns_variable, rule_fits, statement_may, term_may}
 use Rattle.warp_step.proofs.DueBodies.{body_of_fits, body_sources, of_both, statement_sources}
 use Rattle.warp_step.proofs.DueLemmas.{other_stays}
-use Rattle.warp_step.proofs.ValidLemmas.{same_target}
+use Rattle.warp_body.proofs.Turns.{turns_apart, turns_keep}
+use Rattle.warp_step.proofs.ValidLemmas.{owned_cell, same_target}
 
 -- writes at two places may change places
 pub set_swap : {X : Type 0} (xs : List X) (i j : ℕ) (a b : X) → i ≢ j → set (set xs i a) j b ≡ set (set xs j b) i a
@@ -56,10 +59,11 @@ unheeded_by S place (u ∷ ts) t none named = elim (cases_Bool (is_target place 
       ]
 ]
 
--- A change is apart from a rule: variables of the rule's reactor and what the rule names to read stay as they are, and what the
--- rule writes may be written before it or after it. Ports have these sources.
+-- A change is apart from a rule: the tag, variables of the rule's reactor and what the rule names to read stay as they are, and
+-- what the rule writes may be written before it or after it. Ports have these sources.
 pub record IsApart (P : Program) (S : List ℕ) (r : Rule) (g : World → World) : Type 0 where
   pub sources : (w : World) → w.present.sources ≡ S → (g w).present.sources ≡ S
+  pub tag : (w : World) → w.present.sources ≡ S → (g w).present.tag ≡ w.present.tag
   pub vars : (w : World) (k : ℕ) → w.present.sources ≡ S → IsTrue (owns_variable P r.reactor k)
       → slice_index_or (g w).vars k (pos 0) ≡ slice_index_or w.vars k (pos 0)
   pub reads : (w : World) (t : Target) → w.present.sources ≡ S → IsTrue (names (r.triggers ++ r.reads) t) → present_at (g w).present t ≡ present_at w.present t
@@ -67,6 +71,18 @@ pub record IsApart (P : Program) (S : List ℕ) (r : Rule) (g : World → World)
   pub puts : (w : World) (port : ℕ) (v : ℤ) → w.present.sources ≡ S → IsTrue (names r.writes (to.Port port)) → g (with_port port v w) ≡ with_port port v (g w)
 
 module _ (P : Program) (S : List ℕ) (r : Rule) (g : World → World) (apart : IsApart P S r g) where
+  -- cells have the values that they had
+  read_apart : (b : Bool) (k : ℕ) → (b ≡ true → IsTrue (owns_variable P r.reactor k)) → (w : World) → w.present.sources ≡ S
+      → (if b then slice_index_or (g w).vars k (pos 0) else pos 0) ≡ (if b then slice_index_or w.vars k (pos 0) else pos 0)
+  read_apart true k mine w own = apart.vars w k own (mine refl)
+  read_apart false k mine w own = refl
+
+  cell_apart : (first count : ℕ) (index : ℤ) → IsTrue (owns_cells P r.reactor first count) → (w : World) → w.present.sources ≡ S
+      → cell (g w).vars first count index ≡ cell w.vars first count index
+  cell_apart first count (pos n) may w own =
+      read_apart (nat_lt n count) (first + n) (λ below. owned_cell P r.reactor first count n may below) w own
+  cell_apart first count (negsuc n) may w own = refl
+
   -- expressions have the values that they had
   value_apart : (e : Term) → IsTrue (term_may P r e) → (w : World) → w.present.sources ≡ S → value_of e (g w).vars (g w).present ≡ value_of e w.vars w.present
   value_apart (Constant n) may w own = refl
@@ -86,6 +102,31 @@ module _ (P : Program) (S : List ℕ) (r : Rule) (g : World → World) (apart : 
       let first = value_apart a inner.1 w own in
       let second = value_apart b outer.1 w own in
       λ i. if is_true (test i) then first i else second i
+  value_apart (ProductOver a b c) may w own =
+      let outer = and_parts (term_may P r a && term_may P r b) (term_may P r c) may in
+      let inner = and_parts (term_may P r a) (term_may P r b) outer.0 in
+      let first = value_apart a inner.0 w own in
+      let second = value_apart b inner.1 w own in
+      let third = value_apart c outer.1 w own in
+      λ i. quotient_of_product (first i) (second i) (third i)
+  value_apart (CellAt first count index) may w own =
+      let both = and_parts (owns_cells P r.reactor first count) (term_may P r index) may in
+      ap (cell (g w).vars first count) (value_apart index both.1 w own) ∙ cell_apart first count (value_of index w.vars w.present) both.0 w own
+  value_apart TimeNow may w own = ap (λ (t : Moment). pos t.time) (apart.tag w own)
+  value_apart MicrostepNow may w own = ap (λ (t : Moment). pos t.microstep) (apart.tag w own)
+
+  -- a cell that is set may be set before the change or after it
+  set_apart : (b : Bool) (k : ℕ) (v : ℤ) → (b ≡ true → IsTrue (owns_variable P r.reactor k)) → (w : World) → w.present.sources ≡ S
+      → g (record { vars = if b then slice_set w.vars k v else w.vars; present = w.present })
+      ≡ record { vars = if b then slice_set (g w).vars k v else (g w).vars; present = (g w).present }
+  set_apart true k v mine w own = apart.sets w k v own (mine refl)
+  set_apart false k v mine w own = refl
+
+  cell_set_apart : (first count : ℕ) (index v : ℤ) → IsTrue (owns_cells P r.reactor first count) → (w : World) → w.present.sources ≡ S
+      → g (with_cell_in first count index v w) ≡ with_cell_in first count index v (g w)
+  cell_set_apart first count (pos n) v may w own =
+      set_apart (nat_lt n count) (first + n) v (λ below. owned_cell P r.reactor first count n may below) w own
+  cell_set_apart first count (negsuc n) v may w own = refl
 
   -- statements and bodies may come before the change or after it
   mutual
@@ -117,6 +158,19 @@ module _ (P : Program) (S : List ℕ) (r : Rule) (g : World → World) (apart : 
         ∙ choice_of (changed g) (is_true (value_of e w.vars w.present)) (effect_of first now) (effect_of second now)
         (effect_of first (changed g now)) (effect_of second (changed g now))
         (body_apart first inner.1 now own) (body_apart second outer.1 now own)
+    statement_apart (SetCell first count index e) may now own =
+        let outer = and_parts (owns_cells P r.reactor first count && term_may P r index) (term_may P r e) may in
+        let inner = and_parts (owns_cells P r.reactor first count) (term_may P r index) outer.0 in
+        let w = world_of now in
+        let number = value_apart index inner.1 w own in
+        let value = value_apart e outer.1 w own in
+        (λ i. let u = with_cell_in first count (number i) (value i) (g w) in record { vars = u.vars; present = u.present; wishes = now.wishes })
+        ∙ ap (λ (u : World). record { vars = u.vars; present = u.present; wishes = now.wishes })
+        (sym (cell_set_apart first count (value_of index w.vars w.present) (value_of e w.vars w.present) inner.0 w own))
+    statement_apart (Repeat most e body) may now own =
+        let both = and_parts (term_may P r e) (body_may P r body) may in
+        turns_apart (λ (x : Effect). x.present.sources ≡ S) (changed g) (holds e) (effect_of body)
+        (λ x h. body_sources body x ∙ h) (λ x h. ap is_true (value_apart e both.0 (world_of x) h)) (λ x h. body_apart body both.1 x h) most now own
 
     body_apart : (b : Body) → IsTrue (body_may P r b) → (now : Effect) → now.present.sources ≡ S → effect_of b (changed g now) ≡ changed g (effect_of b now)
     body_apart Done may now own = refl
@@ -151,6 +205,17 @@ module _ (P : Program) (S : List ℕ) (r : Rule) (g : World → World) (apart : 
 module _ {X : Type 0} (P : Program) (S : List ℕ) (r : Rule) (look : World → X)
     (set_stays : (w : World) (k : ℕ) (v : ℤ) → w.present.sources ≡ S → IsTrue (owns_variable P r.reactor k) → look (with_variable k v w) ≡ look w)
     (put_stays : (w : World) (port : ℕ) (v : ℤ) → w.present.sources ≡ S → IsTrue (names r.writes (to.Port port)) → look (with_port port v w) ≡ look w) where
+  cell_if_stays : (b : Bool) (k : ℕ) (v : ℤ) → (b ≡ true → IsTrue (owns_variable P r.reactor k)) → (w : World) → w.present.sources ≡ S
+      → look (record { vars = if b then slice_set w.vars k v else w.vars; present = w.present }) ≡ look w
+  cell_if_stays true k v mine w own = set_stays w k v own (mine refl)
+  cell_if_stays false k v mine w own = refl
+
+  cell_stays : (first count : ℕ) (index v : ℤ) → IsTrue (owns_cells P r.reactor first count) → (w : World) → w.present.sources ≡ S
+      → look (with_cell_in first count index v w) ≡ look w
+  cell_stays first count (pos n) v may w own =
+      cell_if_stays (nat_lt n count) (first + n) v (λ below. owned_cell P r.reactor first count n may below) w own
+  cell_stays first count (negsuc n) v may w own = refl
+
   mutual
     statement_stays : (s : Statement) → IsTrue (statement_may P r s) → (now : Effect) → now.present.sources ≡ S → look (world_of (effect_of_one s now)) ≡ look (world_of now)
     statement_stays (SetVariable k e) may now own =
@@ -163,6 +228,14 @@ module _ {X : Type 0} (P : Program) (S : List ℕ) (r : Rule) (look : World → 
         let inner = and_parts (term_may P r e) (body_may P r first) outer.0 in
         of_both (λ (done : Effect). look (world_of done) ≡ look (world_of now)) (is_true (value_of e now.vars now.present))
         (effect_of first now) (effect_of second now) (body_stays first inner.1 now own) (body_stays second outer.1 now own)
+    statement_stays (SetCell first count index e) may now own =
+        let outer = and_parts (owns_cells P r.reactor first count && term_may P r index) (term_may P r e) may in
+        let inner = and_parts (owns_cells P r.reactor first count) (term_may P r index) outer.0 in
+        cell_stays first count (value_of index now.vars now.present) (value_of e now.vars now.present) inner.0 (world_of now) own
+    statement_stays (Repeat most e body) may now own =
+        let both = and_parts (term_may P r e) (body_may P r body) may in
+        (turns_keep (λ (x : Effect). (x.present.sources ≡ S) × (look (world_of x) ≡ look (world_of now))) (holds e) (effect_of body)
+        (λ x h. (body_sources body x ∙ h.0, body_stays body both.1 x h.0 ∙ h.1)) most now (own, refl)).1
 
     body_stays : (b : Body) → IsTrue (body_may P r b) → (now : Effect) → now.present.sources ≡ S → look (world_of (effect_of b now)) ≡ look (world_of now)
     body_stays Done may now own = refl
@@ -189,6 +262,7 @@ variable_apart P S r k v foreign =
     λ j mine same. let no : true ≡ false = sym mine ∙ ap (owns_variable P r.reactor) same ∙ foreign in cc in
     record {
       sources = λ w own. own;
+      tag = λ w own. refl;
       vars = λ w j own mine. get_or-set_other w.vars k j v (pos 0) (other j mine);
       reads = λ w t own named. refl;
       sets = λ w j u own mine. ap (λ (vs : List ℤ). record { vars = vs; present = w.present }) (set_swap w.vars j k u v (other j mine));
@@ -202,6 +276,7 @@ port_apart P S r port v unwritten unread =
     λ q mine same. let no : true ≡ false = sym mine ∙ ap (λ (n : ℕ). names r.writes (to.Port n)) same ∙ unwritten in cc in
     record {
       sources = λ w own. own;
+      tag = λ w own. refl;
       vars = λ w k own mine. refl;
       reads = λ w t own named.
           other_stays (to.Port port) v w.present t
@@ -224,6 +299,7 @@ pub leaves_apart : (P : Program) (S : List ℕ) (first second : Rule) → Leaves
 leaves_apart P S first second leaves left fits =
     record {
       sources = rule_sources S second;
+      tag = λ w own. rule_stays P S second (λ u. u.present.tag) (λ u j v there his. refl) (λ u port v there his. refl) w fits own;
       vars = λ w k own mine.
           rule_stays P S second (λ u. slice_index_or u.vars k (pos 0))
           (λ u j v there his. (variable_apart P S first j v (leaves.vars j his)).vars u k there mine)

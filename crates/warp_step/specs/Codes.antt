@@ -2,7 +2,7 @@
 use Rattle.std.specs.Prelude.{◌≡◌, ℕ, zero, suc, ℤ, Bool, List, Option, refl}
 use Rattle.std.specs.Coded.{Coded, code_by, coded×, coded_ℕ, coded_ℤ, coded_bool, coded_list, coded_option}
 use Rattle.warp_tag.specs.declared.form.Form.{Form}
-use Rattle.warp_tag.specs.declared.form.Form.TheVariants.{One, Two, Three}
+use Rattle.warp_tag.specs.declared.form.Form.TheVariants.{One, Two, Three, Four}
 use Rattle.warp_body.specs.Codes.{body_code, target_code}
 use Rattle.warp_body.specs.Effect.{Body}
 use Rattle.warp_body.specs.declared.place.Target.{Target}
@@ -15,7 +15,9 @@ use Rattle.warp_step.specs.declared.parts.Link.{Link}
 use Rattle.warp_step.specs.declared.parts.ProgramInput.{ProgramInput}
 
 abbrev pub variable_code : Coded Variable
-variable_code = code_by (ℕ × ℤ) (coded× coded_ℕ coded_ℤ) (λ v. (v.reactor, v.start)) (λ p. record { reactor = p.0; start = p.1 }) (λ _. refl)
+variable_code =
+    code_by (ℕ × (Bool × ℤ)) (coded× coded_ℕ (coded× coded_bool coded_ℤ)) (λ v. (v.reactor, (v.is_told, v.start)))
+    (λ p. record { reactor = p.0; is_told = p.1.0; start = p.1.1 }) (λ _. refl)
 
 abbrev pub port_code : Coded Port
 port_code = code_by (ℕ × Bool) (coded× coded_ℕ coded_bool) (λ p. (p.reactor, p.is_input)) (λ p. record { reactor = p.0; is_input = p.1 }) (λ _. refl)
@@ -53,16 +55,19 @@ abbrev pub form_index : Form → ℕ
 form_index One = 0
 form_index Two = 1
 form_index Three = 2
+form_index Four = 3
 
 abbrev pub form_at : ℕ → Form
 form_at zero = One
 form_at (suc zero) = Two
-form_at (suc (suc n)) = Three
+form_at (suc (suc zero)) = Three
+form_at (suc (suc (suc n))) = Four
 
 abbrev read_form : (f : Form) → form_at (form_index f) ≡ f
 read_form One = refl
 read_form Two = refl
 read_form Three = refl
+read_form Four = refl
 
 abbrev pub form_code : Coded Form
 form_code = code_by ℕ coded_ℕ form_index form_at read_form

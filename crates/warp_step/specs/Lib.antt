@@ -11,4 +11,5 @@ pub mod Run
 pub mod Events
 pub mod Twice
 pub mod Counter
+pub mod Labelled
 pub mod inner

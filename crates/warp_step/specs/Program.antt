@@ -1,5 +1,5 @@
 -- A program as definitions see it: its parts in file order, without where they lie in memory.
-use Rattle.std.specs.Prelude.{ℕ, ℤ, List, map, slice_get}
+use Rattle.std.specs.Prelude.{ℕ, ℤ, List, [], ◌∷◌, map, slice_get, if◌then◌else◌}
 use Rattle.std.specs.Option.{option_map_or}
 use Rattle.warp_tag.specs.Limits.{last_microstep, wider}
 use Rattle.warp_tag.specs.declared.form.Form.{Form}
@@ -54,6 +54,12 @@ rule_of r = record {
 -- the start values of the variables
 abbrev pub starts_of : Program → List ℤ
 starts_of P = map (λ v. v.start) P.variables
+
+-- of values by number those that are told to who asks for all: of the variables that are told
+abbrev pub told_of : List Variable → List ℤ → List ℤ
+told_of [] values = []
+told_of (v ∷ vs) [] = []
+told_of (v ∷ vs) (x ∷ xs) = if v.is_told then x ∷ told_of vs xs else told_of vs xs
 
 -- the minimum delay of an action
 abbrev pub delay_of : Program → ℕ → ℕ

@@ -29,9 +29,9 @@ source_of (l ∷ ls) port = if is_none l.delay && l.target == port then l.source
 abbrev pub sources_of : Program → List ℕ
 sources_of P = map (source_of P.links) (numbers 0 P.ports)
 
--- nothing of the program is present
-abbrev pub absent : Program → Presence
-absent P = nothing_present (program_places P) (sources_of P)
+-- nothing of the program is present at a tag
+abbrev pub absent : Program → Moment → Presence
+absent P t = nothing_present t (program_places P) (sources_of P)
 
 -- the first part: the entries at the tag are present with their values, and each given input at its port
 
@@ -49,7 +49,7 @@ arrived P (g ∷ gs) present = arrived P gs (with_value (to.Port (port_of P g.in
 
 -- what is present when the reactions begin
 abbrev pub present_first : Program → Snapshot → Moment → List Given → Presence
-present_first P s t X = arrived P X (arrived_entries (filter (λ w. is_same w.tag t) s.pending) (absent P))
+present_first P s t X = arrived P X (arrived_entries (filter (λ w. is_same w.tag t) s.pending) (absent P t))
 
 -- the entries at the tag are taken out
 abbrev pub without_entries : Moment → Snapshot → Snapshot

@@ -37,7 +37,7 @@ twice = record {
   stop = 100;
   origins = 2;
   reactors = 1;
-  variables = (record { reactor = 0; start = pos 0 }) ∷ [];
+  variables = (record { reactor = 0; is_told = true; start = pos 0 }) ∷ [];
   ports = (record { reactor = 0; is_input = true }) ∷ (record { reactor = 0; is_input = true }) ∷ (record { reactor = 0; is_input = false }) ∷ [];
   actions = [];
   timers = [];

@@ -1,10 +1,10 @@
 -- What holds of every program.
 pub use Rattle.warp_step.specs.Named.{is_distinct, is_rising, has, names, reactor_of}
-use Rattle.std.specs.Prelude.{ℕ, Bool, true, false, not, ◌&&◌, ◌==◌, nat_lt, nat_le, List, ◌++◌, length, map, Option, Some, None}
+use Rattle.std.specs.Prelude.{ℕ, ◌+◌, Bool, true, false, not, ◌&&◌, ◌==◌, nat_lt, nat_le, List, ◌++◌, length, map, take, drop, Option, Some, None}
 use Rattle.std.specs.List.{list_all}
 use Rattle.warp_tag.specs.Limits.{longest_stop, longest_period, most_origins, most_reactors, most_variables, most_ports, most_actions, most_timers, most_reactions, most_links, most_inputs, most_outputs, most_wishes}
-use Rattle.warp_body.specs.Term.{Term, Constant, VariableAt, ValueAt, PresentAt, OfOne, OfTwo, Choice}
-use Rattle.warp_body.specs.Effect.{Statement, SetVariable, PutOutput, ScheduleAction, Choose, Body, Done, Then, schedules_of}
+use Rattle.warp_body.specs.Term.{Term, Constant, VariableAt, ValueAt, PresentAt, OfOne, OfTwo, Choice, ProductOver, CellAt, TimeNow, MicrostepNow}
+use Rattle.warp_body.specs.Effect.{Statement, SetVariable, PutOutput, ScheduleAction, Choose, SetCell, Repeat, Body, Done, Then, schedules_of}
 use Rattle.warp_body.specs.declared.place.Places.{Places}
 use Rattle.warp_body.specs.declared.place.Sizes.{Sizes}
 use Rattle.warp_body.specs.declared.place.Target.{Target}
@@ -40,7 +40,13 @@ is_writable P reactor (to.Port n) = has P.ports n (λ p. not p.is_input && p.rea
 abbrev pub owns_variable : Program → ℕ → ℕ → Bool
 owns_variable P reactor n = has P.variables n (λ v. v.reactor == reactor)
 
--- an expression reads variables of the reaction's reactor, and targets that the reaction names in `on` or `reads`
+-- so many variables from this one on are there, and all are the reactor's
+abbrev pub owns_cells : Program → ℕ → ℕ → ℕ → Bool
+owns_cells P reactor first count =
+    nat_le (first + count) (length P.variables) && list_all (λ v. v.reactor == reactor) (take count (drop first P.variables))
+
+-- an expression reads variables and cells of the reaction's reactor, targets that the reaction names in `on` or `reads`, and the
+-- tag
 abbrev pub term_may : Program → Rule → Term → Bool
 term_may P r (Constant n) = true
 term_may P r (VariableAt k) = owns_variable P r.reactor k
@@ -49,14 +55,21 @@ term_may P r (PresentAt target) = names (r.triggers ++ r.reads) target
 term_may P r (OfOne o a) = term_may P r a
 term_may P r (OfTwo o a b) = term_may P r a && term_may P r b
 term_may P r (Choice c a b) = term_may P r c && term_may P r a && term_may P r b
+term_may P r (ProductOver a b c) = term_may P r a && term_may P r b && term_may P r c
+term_may P r (CellAt first count index) = owns_cells P r.reactor first count && term_may P r index
+term_may P r TimeNow = true
+term_may P r MicrostepNow = true
 
--- a body sets variables of the reactor, and puts and schedules what the reaction names in `writes`, after delays in range
+-- a body sets variables and cells of the reactor, and puts and schedules what the reaction names in `writes`, after delays in
+-- range
 abbrev mutual
   pub statement_may : Program → Rule → Statement → Bool
   statement_may P r (SetVariable k e) = owns_variable P r.reactor k && term_may P r e
   statement_may P r (PutOutput port e) = names r.writes (to.Port port) && term_may P r e
   statement_may P r (ScheduleAction action delay e) = names r.writes (to.Action action) && nat_le delay (longest_period P.form) && term_may P r e
   statement_may P r (Choose e first second) = term_may P r e && body_may P r first && body_may P r second
+  statement_may P r (SetCell first count index e) = owns_cells P r.reactor first count && term_may P r index && term_may P r e
+  statement_may P r (Repeat most e body) = term_may P r e && body_may P r body
 
   pub body_may : Program → Rule → Body → Bool
   body_may P r Done = true
@@ -89,9 +102,12 @@ fed P = map (λ l. l.target) P.links ++ map (λ i. i.port) P.inputs
 abbrev pub is_within_limits : Program → Bool
 is_within_limits P =
     (nat_le P.stop (longest_stop P.form) && nat_le 1 P.origins && nat_le P.origins (most_origins P.form))
-    && (nat_le P.reactors most_reactors && nat_le (length P.variables) most_variables && nat_le (length P.ports) most_ports)
-    && (nat_le (length P.actions) most_actions && nat_le (length P.timers) most_timers && nat_le (length P.reactions) most_reactions)
-    && (nat_le (length P.links) most_links && nat_le (length P.inputs) most_inputs && nat_le (length P.outputs) most_outputs)
+    && (nat_le P.reactors (most_reactors P.form) && nat_le (length P.variables) (most_variables P.form)
+    && nat_le (length P.ports) (most_ports P.form))
+    && (nat_le (length P.actions) (most_actions P.form) && nat_le (length P.timers) (most_timers P.form)
+    && nat_le (length P.reactions) (most_reactions P.form))
+    && (nat_le (length P.links) (most_links P.form) && nat_le (length P.inputs) (most_inputs P.form)
+    && nat_le (length P.outputs) (most_outputs P.form))
 
 -- variables, ports, actions and timers are of reactors that are there, and delays, offsets and periods in range
 abbrev pub have_reactors : Program → Bool

@@ -47,11 +47,11 @@ impl State {
         requires microstep { tag.microstep ≤ top_of program.now }
         requires none_before { IsTrue (list_all (λ w. not (is_before w.tag tag)) self.old.pending) }
         requires plan { plan.now ≡ plan_of program.now }
-        requires absent { present.old ≡ absent program.now }
+        requires absent { present.old ≡ absent program.now tag }
         ensures state { self.new ≡
             with_repeats program.now tag present.new 0 program.now.timers (without_entries tag self.old) }
         ensures present { present.new ≡
-            arrived_entries (filter (λ w. is_same w.tag tag) self.old.pending) (absent program.now) }
+            arrived_entries (filter (λ w. is_same w.tag tag) self.old.pending) (absent program.now tag) }
         ensures places { places_of present.new ≡ places_of present.old }
         ensures sources { present.new.sources ≡ present.old.sources }
         ensures due { AreDue program.now present.new result.marks.word }
@@ -82,10 +82,10 @@ impl State {
         requires microstep { tag.microstep ≤ top_of program.now }
         requires some { 0 < length self.old.pending }
         requires plan { plan.now ≡ plan_of program.now }
-        requires absent { present.old ≡ absent program.now }
+        requires absent { present.old ≡ absent program.now tag }
         ensures state { self.new ≡ with_repeats program.now tag present.new 0 program.now.timers
             (record self.old { pending = drop 1 self.old.pending }) }
-        ensures present { present.new ≡ arrived_entries (take 1 self.old.pending) (absent program.now) }
+        ensures present { present.new ≡ arrived_entries (take 1 self.old.pending) (absent program.now tag) }
         ensures places { places_of present.new ≡ places_of present.old }
         ensures sources { present.new.sources ≡ present.old.sources }
         ensures due { AreDue program.now present.new result.marks.word }
@@ -117,11 +117,11 @@ impl State {
         requires some { 0 < length self.old.pending }
         requires none_before { IsTrue (list_all (λ w. not (is_before w.tag tag)) self.old.pending) }
         requires plan { plan.now ≡ plan_of program.now }
-        requires absent { present.old ≡ absent program.now }
+        requires absent { present.old ≡ absent program.now tag }
         ensures state { self.new ≡
             with_repeats program.now tag present.new 0 program.now.timers (without_entries tag self.old) }
         ensures present { present.new ≡
-            arrived_entries (filter (λ w. is_same w.tag tag) self.old.pending) (absent program.now) }
+            arrived_entries (filter (λ w. is_same w.tag tag) self.old.pending) (absent program.now tag) }
         ensures places { places_of present.new ≡ places_of present.old }
         ensures sources { present.new.sources ≡ present.old.sources }
         ensures due { AreDue program.now present.new result.marks.word }

@@ -30,6 +30,7 @@ impl Program {
         let variables = vec![in alloc;
             Variable {
                 reactor: 0,
+                is_told: true,
                 start: 0
             },
         ]?;

@@ -6,6 +6,7 @@
 //! program and its events have, and `takes` which events those may be.
 #![tactic(auto)]
 
+mod array_label;
 mod arrive;
 mod builtin_twice;
 mod counter;
@@ -24,6 +25,7 @@ mod react;
 mod reaction;
 mod state;
 
+pub use array_label::ArrayLabel;
 pub use counter::Counter;
 pub use given_input::Given;
 pub use law::{

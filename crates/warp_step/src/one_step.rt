@@ -196,7 +196,7 @@ fn advance(
     ensures due { AreDue program.now present.new result.word }
 {
     program.valid();
-    present.clear();
+    present.clear(tag);
     let taken = state.take_entries(program, plan, tag, present);
     let mut due = taken.marks;
     let mut triggered_turn = taken.first;

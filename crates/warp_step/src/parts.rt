@@ -2,11 +2,13 @@
 use crate::reaction::Reaction;
 use warp_tag::Form;
 
-/// A variable.
+/// A variable, or a cell of an array.
 #[derive(Clone, Copy, Debug, PartialEq, Eq)]
 pub struct Variable {
     /// The number of its reactor.
     pub reactor: u32,
+    /// Whether its value is told to who asks for those of all variables.
+    pub is_told: bool,
     /// Its start value.
     pub start: i64,
 }
@@ -70,24 +72,24 @@ pub struct Parts {
     pub stop: u64,
     /// How many origins there are, 1 to the form's `most_origins`.
     pub origins: u32,
-    /// How many reactors there are, at most 64.
+    /// How many reactors there are, at most the form's `most_reactors`.
     pub reactors: u32,
-    /// The variables, at most 256.
+    /// The variables, at most the form's `most_variables`: those that have a value each, then the cells of arrays.
     pub variables: Vec<Variable>,
-    /// The ports, at most 256: of each reactor its inputs, then its outputs.
+    /// The ports, at most the form's `most_ports`: of each reactor its inputs, then its outputs.
     pub ports: Vec<Port>,
-    /// The actions, at most 64.
+    /// The actions, at most the form's `most_actions`.
     pub actions: Vec<Action>,
-    /// The timers, at most 16.
+    /// The timers, at most the form's `most_timers`.
     pub timers: Vec<Timer>,
-    /// The reactions, at most 256, in the order of their reactors.
+    /// The reactions, at most the form's `most_reactions`, in the order of their reactors.
     pub reactions: Vec<Reaction>,
     /// The numbers of the reactions, each once, in the order in which a step runs them.
     pub order: Vec<u32>,
-    /// The links, at most 256.
+    /// The links, at most the form's `most_links`.
     pub links: Vec<Link>,
-    /// The program inputs, at most 64.
+    /// The program inputs, at most the form's `most_inputs`.
     pub inputs: Vec<ProgramInput>,
-    /// The ports of the program outputs, at most 64.
+    /// The ports of the program outputs, at most the form's `most_outputs`.
     pub outputs: Vec<u32>,
 }

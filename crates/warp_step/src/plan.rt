@@ -2,7 +2,7 @@
 ghost use Rattle.std.specs.Prelude.{◌≡◌, ◌+◌, ◌<◌, ◌≤◌, [], ◌∷◌, map, length, IfOk, slice_index_or};
 ghost use Rattle.std.specs.Prelude.{false, if◌then◌else◌, IsTrue, nat_lt, ◌==◌};
 ghost use Rattle.std.specs.List.{list_all};
-ghost use Rattle.warp_tag.specs.Limits.{most_reactions};
+ghost use Rattle.warp_tag.specs.Limits.{most_reactions, widest};
 ghost use Rattle.warp_body.specs.declared.place.Target.{Target};
 ghost use Rattle.warp_body.specs.declared.place.Target.TheVariants as to;
 ghost use Rattle.warp_step.specs.inner.Marks.{first_link, first_output, marks_from, most_marks, no_marks, with_mark};
@@ -25,7 +25,7 @@ use warp_body::{Code, Places, Sizes, Target, fits};
 use warp_tag::OutOfMemory;
 
 /// How many numbers places have.
-const PLACE_COUNT: usize = 337;
+const PLACE_COUNT: usize = 1_345;
 
 /// The place by whose presence a target is present: of a port its source, else itself.
 fn place_of(sources: &[u32], target: Target) -> Target
@@ -191,12 +191,12 @@ fn numbered_place(number: usize) -> Target
 {
     if number == 0 {
         Target::Startup
-    } else if number < 17 {
+    } else if number < 65 {
         Target::Timer((number - 1) as u32)
-    } else if number < 81 {
-        Target::Action((number - 17) as u32)
+    } else if number < 321 {
+        Target::Action((number - 65) as u32)
     } else {
-        Target::Port((number - 81) as u32)
+        Target::Port((number - 321) as u32)
     }
 }
 
@@ -208,8 +208,8 @@ fn place_number(place: Target) -> usize
     match place {
         Target::Startup => 0,
         Target::Timer(n) => 1 + n as usize,
-        Target::Action(n) => 17 + n as usize,
-        Target::Port(n) => 81 + n as usize,
+        Target::Action(n) => 65 + n as usize,
+        Target::Port(n) => 321 + n as usize,
     }
 }
 
@@ -229,7 +229,7 @@ impl Concerned {
     #[inline(always)]
     pub fn none() -> Concerned
         ensures marks { result.marks.word ≡ no_marks }
-        ensures first { most_reactions ≤ result.first }
+        ensures first { most_reactions widest ≤ result.first }
     {
         Concerned {
             marks: Marks::none(),

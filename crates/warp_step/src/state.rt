@@ -14,7 +14,8 @@ use std::marker::Model;
 use warp_body::{Target, Vars};
 use warp_tag::{Landing, OutOfMemory, Tag};
 
-/// The state of a program between two steps: the values of its variables (at most 256), the entries that are pending
+/// The state of a program between two steps: the values of its variables (as many as the widest form has at
+/// most), the entries that are pending
 /// (sorted by tag, then by target, each tag and target once, at most 256), and how many were lost.
 #[derive(Debug, Drop)]
 pub struct State {
@@ -25,14 +26,14 @@ pub struct State {
 
 impl Model for State {
     ghost use Rattle.std.specs.Prelude.{◌≤◌, length};
-    ghost use Rattle.warp_tag.specs.Limits.{most_variables};
+    ghost use Rattle.warp_tag.specs.Limits.{most_variables, widest};
     ghost use Rattle.warp_step.specs.Snapshot.{Snapshot, AreInOrder};
 
     ghost Value = { Snapshot };
 
     ghost view = { λ s. record { vars = s.vars; pending = s.pending; lost = s.lost } };
 
-    ghost invariant = { λ s. AreInOrder s.pending × (length s.vars ≤ most_variables) };
+    ghost invariant = { λ s. AreInOrder s.pending × (length s.vars ≤ most_variables widest) };
 }
 
 impl State {
@@ -164,10 +165,10 @@ impl State {
             && same_entries(self.pending.as_slice(), entries)
     }
 
-    /// That at most 256 variables have values, and at most 256 entries are pending, in order of tag, then of target,
+    /// That no more variables have values than the widest form has, and at most 256 entries are pending, in order of tag, then of target,
     /// each tag and target once, as in each state. It does nothing.
     pub fn valid(&self)
-        ensures variables { length self.now.vars ≤ most_variables }
+        ensures variables { length self.now.vars ≤ most_variables widest }
         ensures few { length self.now.pending ≤ most_pending }
         ensures order { AreInOrder self.now.pending }
     {
@@ -226,7 +227,7 @@ fn start_values(alloc: Global, variables: &[Variable]) -> Result<Vec<i64>, OutOf
 /// Gives the variables these values, by number.
 fn set_all(vars: &mut Vars, values: &[i64])
     requires all { length values.now ≡ length vars.old }
-    requires few { length vars.old ≤ most_variables }
+    requires few { length vars.old ≤ most_variables widest }
     ensures { vars.new ≡ values.now }
 {
     for (number, value) in values.iter().enumerate() {

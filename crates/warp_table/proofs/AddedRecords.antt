@@ -5,24 +5,24 @@ use Rattle.std.specs.Map.{lookup}
 use Rattle.std.proofs.lemmas.Bool.{false≢true}
 use Rattle.warp_tag.specs.Moment.{Moment}
 use Rattle.warp_record.specs.declared.record.Record.{Record}
-use Rattle.warp_record.specs.declared.record.Record.TheVariants.{Event, Withdraw, Announce}
-use Rattle.warp_table.specs.Names.{origin_of}
+use Rattle.warp_record.specs.declared.record.Record.TheVariants.{Event, Withdraw, Announce, Joint}
+use Rattle.warp_table.specs.Names.{origin_or_first}
 use Rattle.warp_table.specs.Records.{set_of}
 use Rattle.warp_table.specs.declared.rows.Known.{Known}
 use Rattle.warp_table.specs.declared.names.Name.{Name}
 use Rattle.warp_table.specs.inner.Heard.{Announced, Heard, IsHeard, with_tag}
 use Rattle.warp_table.specs.inner.Kept.{OtherPlaces, HoldsEvent, IsAdded, Keeps, NotesEvent, entries_of, event_place, is_named, kept_of, known_of, other_place, payload_at, put_known, put_other, with_event_at, with_withdrawal_at, withdrawal_place}
 use Rattle.warp_table.specs.inner.News.{IsNewsOf}
-use Rattle.warp_table.proofs.EventPlaces.{announcement_places, event_places, holds_own, withdrawal_places}
+use Rattle.warp_table.proofs.EventPlaces.{announcement_places, event_places, holds_own, joint_places, withdrawal_places}
 use Rattle.warp_table.proofs.HeardNews.{event_kept as event_told, event_new, own_announcement, own_event, own_withdrawal, withdrawal_new}
-use Rattle.warp_table.proofs.KnownNames.{announcement_kept, event_kept, has_event, withdrawal_kept}
+use Rattle.warp_table.proofs.KnownNames.{announcement_kept, event_kept, has_event, joint_kept, withdrawal_kept}
 use Rattle.warp_table.proofs.Places.{not_there}
 use Rattle.warp_table.proofs.Sets.{in_set}
 
 -- a record is there, and its origin hears of it
 pub record IsTold (records : List Record) (said : Record) (place : ℕ) (names : List (Name × Known)) (others : OtherPlaces) (own : Heard) : Type 0 where
   pub added : IsAdded records said place names others
-  pub heard : IsHeard (set_of (records ++ said ∷ [])) (origin_of said) own
+  pub heard : IsHeard (set_of (records ++ said ∷ [])) (origin_or_first said) own
 
 module _ (records : List Record) (names : List (Name × Known)) (others : OtherPlaces) (k : Keeps records names others) (own : Heard) where
   module _ (name : Name) (heard : IsHeard (set_of records) name.origin own) where
@@ -90,6 +90,21 @@ module _ (records : List Record) (names : List (Name × Known)) (others : OtherP
           heard = subst (λ (h : Heard). IsHeard (set_of (records ++ said ∷ [])) name.origin h) (sym hears)
               (own_withdrawal records (entries_of records names) own name.origin name.tag news);
         }
+
+  pub joint_is_added : (tag : Moment) (events withdrawn place next : ℕ) (now : OtherPlaces) → next ≡ length records + 1 → place ≡ next → other_place others (Joint tag events withdrawn) ≡ None →
+      now ≡ put_other others (Joint tag events withdrawn) next → IsAdded records (Joint tag events withdrawn) place names now
+  joint_is_added tag events withdrawn place next now is last none put =
+      let said : Record = Joint tag events withdrawn in
+      let lacks : Contains records said → ⊥ = not_there records names others said k.places none in
+      let put_last = put ∙ ap (put_other others said) is in
+      record {
+        new = lacks;
+        last = last ∙ is;
+        keeps = subst (λ (os : OtherPlaces). Keeps (records ++ said ∷ []) names os) (sym put_last) (record {
+          tells = joint_kept records names tag events withdrawn k.places.events k.tells;
+          places = joint_places records names others k.places tag events withdrawn lacks;
+        });
+      }
 
   pub announcement_added : (origin : ℕ) (tag : Moment) (events withdrawn place next : ℕ) (now_names : List (Name × Known)) (now : OtherPlaces) (own_now : Heard) → IsHeard (set_of records) origin own →
       next ≡ length records + 1 → place ≡ next → other_place others (Announce origin tag events withdrawn) ≡ None → now_names ≡ names → now ≡ put_other others (Announce origin tag events withdrawn) next →

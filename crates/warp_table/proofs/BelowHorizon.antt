@@ -10,15 +10,17 @@ use Rattle.warp_step.specs.Events.{is_declared}
 use Rattle.warp_step.specs.Program.{Program}
 use Rattle.warp_step.specs.Run.{events_until}
 use Rattle.warp_record.specs.declared.record.Record.{Record}
-use Rattle.warp_record.specs.declared.record.Record.TheVariants.{Event, Withdraw, Announce}
+use Rattle.warp_record.specs.declared.record.Record.TheVariants.{Event, Withdraw, Announce, Joint}
 use Rattle.warp_record.specs.declared.reply.Refusal.{Refusal}
 use Rattle.warp_record.specs.declared.reply.Refusal.TheVariants.{NoOrigin}
-use Rattle.warp_table.specs.Announced.{HasReached, IsHonest, IsHorizon, IsWithin, beginning, events_below, withdrawals_below}
+use Rattle.warp_table.specs.Joint.{HasReachedJointly, all_events_below, all_withdrawals_below}
+use Rattle.warp_table.specs.Announced.{HasReached, HasReachedAlone, IsHonest, IsHorizon, IsWithin, beginning, events_below, withdrawals_below}
 use Rattle.warp_table.specs.Check.{refusal_of}
 use Rattle.warp_table.specs.Names.{HasEvent, HasWithdrawal, IsLive, IsLiveEvent, event_before}
 use Rattle.warp_table.specs.Records.{IsIn, Records}
-use Rattle.warp_table.proofs.Announcements.{event_stays, honest_stays, withdrawal_stays}
+use Rattle.warp_table.proofs.Announcements.{any_event_stays, any_withdrawal_stays, event_stays, honest_stays, withdrawal_stays}
 use Rattle.warp_table.proofs.Counts.{all_counted}
+use Rattle.warp_table.proofs.JointCounts.{all_named}
 use Rattle.warp_table.proofs.Horizons.{none_before_beginning}
 use Rattle.warp_table.proofs.Filters.{one_filtered}
 
@@ -34,27 +36,66 @@ lesser_is_other p q lesser same =
 
 -- an origin whose announcement up to a tag is reached in a set within an honest one: of its names before the tag the set has
 -- all that the honest one has
-module _ (S U : Records) (origin : ℕ) (own : Moment) (honest : IsHonest U) (within : IsWithin S U) (reached : HasReached S origin own) where
+module _ (S U : Records) (origin : ℕ) (own : Moment) (honest : IsHonest U) (within : IsWithin S U) (reached : HasReachedAlone S origin own) where
   -- and the honest one has at most one payload of each
-  one_payload : (tag : Moment) (p q : ℕ × ℤ) → IsTrue (is_before tag own) → HasEvent U origin tag p → HasEvent U origin tag q → p ≡ q
-  one_payload tag p q below hp hq =
+  one_payload_alone : (tag : Moment) (p q : ℕ × ℤ) → IsTrue (is_before tag own) → HasEvent U origin tag p → HasEvent U origin tag q → p ≡ q
+  one_payload_alone tag p q below hp hq =
       let announced = within (Announce origin own reached.0 reached.1) reached.2 in
       same_payload p q
-      (false_from_ne_true (is_lesser p q) (λ lesser. honest origin (own, reached.0, reached.1, announced, inr (inr (tag, below, (p, q, hp, hq, lesser_is_other p q lesser))))))
-      (false_from_ne_true (is_lesser q p) (λ lesser. honest origin (own, reached.0, reached.1, announced, inr (inr (tag, below, (q, p, hq, hp, lesser_is_other q p lesser))))))
+      (false_from_ne_true (is_lesser p q) (λ lesser. honest.each origin (own, reached.0, reached.1, announced, inr (inr (tag, below, (p, q, hp, hq, lesser_is_other p q lesser))))))
+      (false_from_ne_true (is_lesser q p) (λ lesser. honest.each origin (own, reached.0, reached.1, announced, inr (inr (tag, below, (q, p, hq, hp, lesser_is_other q p lesser))))))
 
-  event_there : (tag : Moment) (payload : ℕ × ℤ) → IsTrue (is_before tag own) → HasEvent U origin tag payload → HasEvent S origin tag payload
-  event_there tag payload below has =
+  event_alone : (tag : Moment) (payload : ℕ × ℤ) → IsTrue (is_before tag own) → HasEvent U origin tag payload → HasEvent S origin tag payload
+  event_alone tag payload below has =
       let announced = within (Announce origin own reached.0 reached.1) reached.2 in
-      let there : events_below S origin own tag = all_counted reached.0 (events_below S origin own) (events_below U origin own) (event_stays S U within origin own) reached.3.0 (λ more. honest origin (own, reached.0, reached.1, announced, inl more)) tag (below, (payload, has)) in
+      let there : events_below S origin own tag = all_counted reached.0 (events_below S origin own) (events_below U origin own) (event_stays S U within origin own) reached.3.0 (λ more. honest.each origin (own, reached.0, reached.1, announced, inl more)) tag (below, (payload, has)) in
       let kept : HasEvent U origin tag there.1.0 = within (Event origin tag there.1.0.0 there.1.0.1) there.1.1 in
-      subst (λ (p : ℕ × ℤ). HasEvent S origin tag p) (one_payload tag there.1.0 payload below kept has) there.1.1
+      subst (λ (p : ℕ × ℤ). HasEvent S origin tag p) (one_payload_alone tag there.1.0 payload below kept has) there.1.1
+
+  withdrawal_alone : (tag : Moment) → IsTrue (is_before tag own) → HasWithdrawal U origin tag → HasWithdrawal S origin tag
+  withdrawal_alone tag below has =
+      let announced = within (Announce origin own reached.0 reached.1) reached.2 in
+      let there : withdrawals_below S origin own tag = all_counted reached.1 (withdrawals_below S origin own) (withdrawals_below U origin own) (withdrawal_stays S U within origin own) reached.3.1 (λ more. honest.each origin (own, reached.0, reached.1, announced, inr (inl more))) tag (below, has) in
+      there.1
+
+-- where a joint announcement up to a tag is reached in a set within an honest one, the set has of all names before the tag all that the
+-- honest one has
+module _ (S U : Records) (end : Moment) (honest : IsHonest U) (within : IsWithin S U) (reached : HasReachedJointly S end) where
+  -- and the honest one has at most one payload of each
+  one_payload_jointly : (origin : ℕ) (tag : Moment) (p q : ℕ × ℤ) → IsTrue (is_before tag end) → HasEvent U origin tag p → HasEvent U origin tag q → p ≡ q
+  one_payload_jointly origin tag p q below hp hq =
+      let announced = within (Joint end reached.0 reached.1) reached.2 in
+      same_payload p q
+      (false_from_ne_true (is_lesser p q) (λ lesser. honest.jointly (end, reached.0, reached.1, announced, inr (inr (origin, tag, below, (p, q, hp, hq, lesser_is_other p q lesser))))))
+      (false_from_ne_true (is_lesser q p) (λ lesser. honest.jointly (end, reached.0, reached.1, announced, inr (inr (origin, tag, below, (q, p, hq, hp, lesser_is_other q p lesser))))))
+
+  pub event_jointly : (origin : ℕ) (tag : Moment) (payload : ℕ × ℤ) → IsTrue (is_before tag end) → HasEvent U origin tag payload → HasEvent S origin tag payload
+  event_jointly origin tag payload below has =
+      let announced = within (Joint end reached.0 reached.1) reached.2 in
+      let there : all_events_below S end (origin, tag) = all_named reached.0 (all_events_below S end) (all_events_below U end) (any_event_stays S U within end) reached.3.0 (λ more. honest.jointly (end, reached.0, reached.1, announced, inl more)) (origin, tag) (below, (payload, has)) in
+      let kept : HasEvent U origin tag there.1.0 = within (Event origin tag there.1.0.0 there.1.0.1) there.1.1 in
+      subst (λ (p : ℕ × ℤ). HasEvent S origin tag p) (one_payload_jointly origin tag there.1.0 payload below kept has) there.1.1
+
+  pub withdrawal_jointly : (origin : ℕ) (tag : Moment) → IsTrue (is_before tag end) → HasWithdrawal U origin tag → HasWithdrawal S origin tag
+  withdrawal_jointly origin tag below has =
+      let announced = within (Joint end reached.0 reached.1) reached.2 in
+      let there : all_withdrawals_below S end (origin, tag) = all_named reached.1 (all_withdrawals_below S end) (all_withdrawals_below U end) (any_withdrawal_stays S U within end) reached.3.1 (λ more. honest.jointly (end, reached.0, reached.1, announced, inr (inl more))) (origin, tag) (below, has) in
+      there.1
+
+-- an origin of which an announcement up to a tag speaks that is reached in a set within an honest one: of its names before the tag the
+-- set has all that the honest one has
+module _ (S U : Records) (origin : ℕ) (own : Moment) (honest : IsHonest U) (within : IsWithin S U) (reached : HasReached S origin own) where
+  event_there : (tag : Moment) (payload : ℕ × ℤ) → IsTrue (is_before tag own) → HasEvent U origin tag payload → HasEvent S origin tag payload
+  event_there tag payload below has = elim reached [
+    | inl alone ↦ event_alone S U origin own honest within alone tag payload below has
+    | inr jointly ↦ event_jointly S U own honest within jointly origin tag payload below has
+  ]
 
   withdrawal_there : (tag : Moment) → IsTrue (is_before tag own) → HasWithdrawal U origin tag → HasWithdrawal S origin tag
-  withdrawal_there tag below has =
-      let announced = within (Announce origin own reached.0 reached.1) reached.2 in
-      let there : withdrawals_below S origin own tag = all_counted reached.1 (withdrawals_below S origin own) (withdrawals_below U origin own) (withdrawal_stays S U within origin own) reached.3.1 (λ more. honest origin (own, reached.0, reached.1, announced, inr (inl more))) tag (below, has) in
-      there.1
+  withdrawal_there tag below has = elim reached [
+    | inl alone ↦ withdrawal_alone S U origin own honest within alone tag below has
+    | inr jointly ↦ withdrawal_jointly S U own honest within jointly origin tag below has
+  ]
 
 -- what is before a tag is before each that is not before that one
 before_later : (t u v : Moment) → is_before t u ≡ true → is_before v u ≡ false → is_before t v ≡ true

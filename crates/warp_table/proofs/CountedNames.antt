@@ -1,7 +1,6 @@
 -- How many names an origin has and how far they go, by what is heard of it and by what is kept of its names.
-use Rattle.std.proofs.Common.{◌≡◌, ◌≢◌, inl, inr, ℕ, ◌<◌, ◌≤◌, suc, ◌-◌, Bool, true, false, is_some, Option, Some, None, List, [], ◌∷◌, ◌++◌, length, get_or, drop, take, Contains, IsTrue, refl, sym, ap, subst, ◌∙◌, arith}
+use Rattle.std.proofs.Common.{◌≡◌, inl, inr, ℕ, ◌<◌, ◌≤◌, suc, ◌-◌, true, false, is_some, Option, Some, None, List, [], ◌∷◌, ◌++◌, length, get_or, drop, take, Contains, IsTrue, refl, sym, ap, subst, ◌∙◌, arith}
 use Rattle.std.specs.Prelude.{◌↔◌}
-use Rattle.std.specs.List.{AllPairs}
 use Rattle.std.specs.Map.{lookup}
 use Rattle.std.specs.Option.{option_map}
 use Rattle.std.proofs.lemmas.Bool.{cases_Bool, false≢true}

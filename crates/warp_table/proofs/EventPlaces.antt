@@ -9,7 +9,7 @@ use Rattle.std.proofs.lemmas.List.Elements.{All-weaker}
 use Rattle.warp_tag.specs.Moment.{Moment}
 use Rattle.warp_tag.specs.Table.{greater, is_lesser}
 use Rattle.warp_record.specs.declared.record.Record.{Record}
-use Rattle.warp_record.specs.declared.record.Record.TheVariants.{Event, Withdraw, Announce}
+use Rattle.warp_record.specs.declared.record.Record.TheVariants.{Event, Withdraw, Announce, Joint}
 use Rattle.warp_record.specs.Order.{kind_of}
 use Rattle.warp_table.specs.Log.{IsAt}
 use Rattle.warp_table.specs.Records.{same_record}
@@ -255,6 +255,7 @@ module _ (records : List Record) (names : List (Name × Known)) (others : OtherP
         by true same = ap (λ (x : Name). withdrawal_place (known_of x names).withdrawal) (sym ((named-Decides m name).0 same))
         by false differs = refl
     event_placed (Announce o t events withdrawn) = other_same (Announce o t events withdrawn) (λ p e. cc)
+    event_placed (Joint t events withdrawn) = other_same (Joint t events withdrawn) (λ p e. cc)
 
     pub event_places : (Contains records event_said → ⊥) → KeepsPlaces (records ++ event_said ∷ []) event_names now
     event_places lacks = kept_places records names event_names others now event_said lacks event_placed (events_put event_said name (with_event_at event (known_of name names)) n.holds) h
@@ -307,6 +308,7 @@ module _ (records : List Record) (names : List (Name × Known)) (others : OtherP
                 let tags : name.tag ≡ t = cc in
                 λ j. record { origin = sym origins j; tag = sym tags j }
     withdrawal_placed (Announce o t events withdrawn) = refl
+    withdrawal_placed (Joint t events withdrawn) = refl
 
     pub withdrawal_places : (Contains records gone → ⊥) → KeepsPlaces (records ++ gone ∷ []) gone_names others
     withdrawal_places lacks = kept_places records names gone_names others others gone lacks withdrawal_placed (events_put gone name gone_known (holds_more records gone name (known_of name names).event (holds_own records names name h.events))) h
@@ -328,6 +330,33 @@ module _ (records : List Record) (names : List (Name × Known)) (others : OtherP
     announcement_placed (Announce o t e w) =
         other_put others told (Announce o t e w) (length records + 1)
         ∙ ap (λ b. if b then Some (length records + 1) else other_place others (Announce o t e w)) (same_either (Announce o t e w) told)
+    announcement_placed (Joint t e w) =
+        other_put others told (Joint t e w) (length records + 1)
+        ∙ ap (λ b. if b then Some (length records + 1) else other_place others (Joint t e w)) (same_either (Joint t e w) told)
 
     pub announcement_places : (Contains records told → ⊥) → KeepsPlaces (records ++ told ∷ []) names (put_other others told (length records + 1))
     announcement_places lacks = kept_places records names names others (put_other others told (length records + 1)) told lacks announcement_placed (events_more told) h
+
+  -- One more joint announcement
+
+  module _ (tag : Moment) (events withdrawn : ℕ) where
+    abbrev joint_told : Record
+    joint_told = Joint tag events withdrawn
+
+    joint_placed : (other : Record) → place_in (records ++ joint_told ∷ []) names (put_other others joint_told (length records + 1)) other ≡ (if same_record joint_told other then Some (length records + 1) else place_in records names others other)
+    joint_placed (Event o t i v) =
+        ap (λ b. if b then Some (known_of m names).event else other_place (put_other others joint_told (length records + 1)) (Event o t i v)) (stands_same joint_told (Event o t i v) m)
+        ∙ ap (λ (p : Option ℕ). if stands records (known_of m names).event (Event o t i v) then Some (known_of m names).event else p) (other_put others joint_told (Event o t i v) (length records + 1))
+      where
+        m : Name
+        m = record { origin = o; tag = t }
+    joint_placed (Withdraw o t) = refl
+    joint_placed (Announce o t e w) =
+        other_put others joint_told (Announce o t e w) (length records + 1)
+        ∙ ap (λ b. if b then Some (length records + 1) else other_place others (Announce o t e w)) (same_either (Announce o t e w) joint_told)
+    joint_placed (Joint t e w) =
+        other_put others joint_told (Joint t e w) (length records + 1)
+        ∙ ap (λ b. if b then Some (length records + 1) else other_place others (Joint t e w)) (same_either (Joint t e w) joint_told)
+
+    pub joint_places : (Contains records joint_told → ⊥) → KeepsPlaces (records ++ joint_told ∷ []) names (put_other others joint_told (length records + 1))
+    joint_places lacks = kept_places records names names others (put_other others joint_told (length records + 1)) joint_told lacks joint_placed (events_more joint_told) h

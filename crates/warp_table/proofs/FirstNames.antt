@@ -9,7 +9,7 @@ use Rattle.std.proofs.lemmas.List.{append-nil}
 use Rattle.warp_tag.specs.Moment.{Moment, is_same}
 use Rattle.warp_tag.proofs.Lists.{filter-here, filter-past}
 use Rattle.warp_record.specs.declared.record.Record.{Record}
-use Rattle.warp_record.specs.declared.record.Record.TheVariants.{Event, Withdraw, Announce}
+use Rattle.warp_record.specs.declared.record.Record.TheVariants.{Event, Withdraw, Announce, Joint}
 use Rattle.warp_table.specs.LogNames.{is_other, names_of}
 use Rattle.warp_table.specs.declared.names.Name.{Name}
 use Rattle.warp_table.specs.inner.Kept.{is_named}
@@ -91,6 +91,7 @@ names_event [] said name h = h []
 names_event (Event o t input value ∷ records) said name h = ap (λ names. (o, t) ∷ filter (is_other (o, t)) names) (names_event records said name h) ∙ name_behind (o, t) name (names_of records)
 names_event (Withdraw o t ∷ records) said name h = ap (λ names. (o, t) ∷ filter (is_other (o, t)) names) (names_event records said name h) ∙ name_behind (o, t) name (names_of records)
 names_event (Announce o t events withdrawn ∷ records) said name h = names_event records said name h
+names_event (Joint t events withdrawn ∷ records) said name h = names_event records said name h
 
 -- and an announcement brings none
 pub names_announce : (records : List Record) (o : ℕ) (t : Moment) (events withdrawn : ℕ) → names_of (records ++ Announce o t events withdrawn ∷ []) ≡ names_of records
@@ -98,3 +99,12 @@ names_announce [] o t events withdrawn = refl
 names_announce (Event p s input value ∷ records) o t events withdrawn = ap (λ names. (p, s) ∷ filter (is_other (p, s)) names) (names_announce records o t events withdrawn)
 names_announce (Withdraw p s ∷ records) o t events withdrawn = ap (λ names. (p, s) ∷ filter (is_other (p, s)) names) (names_announce records o t events withdrawn)
 names_announce (Announce p s other_events other_withdrawn ∷ records) o t events withdrawn = names_announce records o t events withdrawn
+names_announce (Joint s other_events other_withdrawn ∷ records) o t events withdrawn = names_announce records o t events withdrawn
+
+-- nor does a joint one
+pub names_joint : (records : List Record) (t : Moment) (events withdrawn : ℕ) → names_of (records ++ Joint t events withdrawn ∷ []) ≡ names_of records
+names_joint [] t events withdrawn = refl
+names_joint (Event p s input value ∷ records) t events withdrawn = ap (λ names. (p, s) ∷ filter (is_other (p, s)) names) (names_joint records t events withdrawn)
+names_joint (Withdraw p s ∷ records) t events withdrawn = ap (λ names. (p, s) ∷ filter (is_other (p, s)) names) (names_joint records t events withdrawn)
+names_joint (Announce p s other_events other_withdrawn ∷ records) t events withdrawn = names_joint records t events withdrawn
+names_joint (Joint s other_events other_withdrawn ∷ records) t events withdrawn = names_joint records t events withdrawn

@@ -12,10 +12,11 @@ use Rattle.std.proofs.lemmas.Map.Made.{IsDistinct-from_AllPairs, is_member-Decid
 use Rattle.warp_tag.specs.Moment.{Moment, is_before, is_same}
 use Rattle.warp_tag.proofs.Tags.{not_before_self}
 use Rattle.warp_record.specs.declared.record.Record.{Record}
-use Rattle.warp_record.specs.declared.record.Record.TheVariants.{Event, Withdraw, Announce}
+use Rattle.warp_record.specs.declared.record.Record.TheVariants.{Event, Withdraw, Announce, Joint}
 use Rattle.warp_table.specs.Records.{Records, IsIn, set_of}
-use Rattle.warp_table.specs.Names.{HasEvent, HasTwoPayloads, HasWithdrawal, origin_of}
-use Rattle.warp_table.specs.Announced.{AtLeast, HasReached, IsBroken, IsReached, ReachesTo, events_below, withdrawals_below}
+use Rattle.warp_table.specs.Names.{HasEvent, HasTwoPayloads, HasWithdrawal, origin_or_first}
+use Rattle.warp_table.specs.Announced.{AtLeast, HasReachedAlone, IsBroken, IsReached, events_below, withdrawals_below}
+use Rattle.warp_table.specs.Horizons.{ReachesAlone}
 use Rattle.warp_table.specs.inner.Heard.{Announced, AreAscending, Heard, IsExceeded, IsExceededBy, IsHeard, IsHeardTo, IsReachedBy, count_before, earlier_of, nothing_heard, with_tag}
 use Rattle.warp_table.proofs.InOrder.{Contains-from_with_tag, Contains-with_tag, ascending-with_tag}
 use Rattle.warp_table.proofs.Members.{Contains-nil, kept_passes, passes_kept}
@@ -88,13 +89,13 @@ reached_by S origin heard is a =
     (λ r. (events.1 r.0, withdrawn.1 r.1), λ r. (events.0 r.0, withdrawn.0 r.1))
 
 -- up to where announcements are heard to be reached, they are reached in the set
-pub reaches : (S : Records) (origin : ℕ) (heard : Heard) (end : Moment) → IsHeard S origin heard → IsHeardTo heard end → ReachesTo S origin end
+pub reaches : (S : Records) (origin : ℕ) (heard : Heard) (end : Moment) → IsHeard S origin heard → IsHeardTo heard end → ReachesAlone S origin end
 reaches S origin heard end is to = record {
   some = elim to.some [
     | inl a ↦ (
         let said : IsIn S (Announce origin a.0.tag a.0.events a.0.withdrawn) = (is.announced a.0.tag a.0.events a.0.withdrawn).0 a.1 in
-        let there : HasReached S origin a.0.tag = (a.0.events, a.0.withdrawn, said, (reached_by S origin heard is a.0).0 a.2) in
-        inl (subst (λ (t : Moment). HasReached S origin t) a.3 there)
+        let there : HasReachedAlone S origin a.0.tag = (a.0.events, a.0.withdrawn, said, (reached_by S origin heard is a.0).0 a.2) in
+        inl (subst (λ (t : Moment). HasReachedAlone S origin t) a.3 there)
         )
     | inr none ↦ inr none
   ];
@@ -105,7 +106,7 @@ reaches S origin heard end is to = record {
 }
 
 -- a tag that is not behind one that is before an end is before it
-before_end : (t u end : Moment) → is_before t u ≡ false → is_before t end ≡ true → is_before u end ≡ true
+pub before_end : (t u end : Moment) → is_before t u ≡ false → is_before t end ≡ true → is_before u end ≡ true
 before_end t u end h k = grind (arith, nat_tests)
 
 -- an announcement is exceeded exactly if the origin broke it
@@ -200,7 +201,7 @@ record EventsHeard (S : Records) (origin : ℕ) (heard : Heard) : Type 0 where
   doubled : IfSome heard.doubled (λ t. HasTwoPayloads S origin t)
   least_doubled : (tag : Moment) → HasTwoPayloads S origin tag → (t : Moment) × (heard.doubled ≡ Some t) × (is_before tag t ≡ false)
 
-IfSome-weaker : (doubled : Option Moment) (P Q : Moment → Type 0) → ((t : Moment) → P t → Q t) → IfSome doubled P → IfSome doubled Q
+pub IfSome-weaker : (doubled : Option Moment) (P Q : Moment → Type 0) → ((t : Moment) → P t → Q t) → IfSome doubled P → IfSome doubled Q
 IfSome-weaker None P Q f h = tt
 IfSome-weaker (Some t) P Q f h = f t h
 
@@ -267,14 +268,14 @@ heard_again S one T origin heard more there is =
     (announcements_stay S T origin heard keeps (λ t events withdrawn. same (Announce origin t events withdrawn)) is)
 
 -- a record of another origin changes nothing
-pub heard_elsewhere : (S : Records) (one : Record) (T : Records) (origin : ℕ) (heard : Heard) → IsWithOne S one T → (origin_of one ≢ origin) → IsHeard S origin heard → IsHeard T origin heard
+pub heard_elsewhere : (S : Records) (one : Record) (T : Records) (origin : ℕ) (heard : Heard) → IsWithOne S one T → (origin_or_first one ≢ origin) → IsHeard S origin heard → IsHeard T origin heard
 heard_elsewhere S one T origin heard more other is =
     let keeps = keeps_one S one T more in
     let none = not_one S one T more in
     heard_from T origin heard is.ordered_events is.ordered_withdrawn
-    (events_stay S T origin heard keeps (λ t payload. none (Event origin t payload.0 payload.1) (λ e. other (sym (ap origin_of e)))) is)
-    (withdrawals_stay S T origin heard keeps (λ t. none (Withdraw origin t) (λ e. other (sym (ap origin_of e)))) is)
-    (announcements_stay S T origin heard keeps (λ t events withdrawn. none (Announce origin t events withdrawn) (λ e. other (sym (ap origin_of e)))) is)
+    (events_stay S T origin heard keeps (λ t payload. none (Event origin t payload.0 payload.1) (λ e. other (sym (ap origin_or_first e)))) is)
+    (withdrawals_stay S T origin heard keeps (λ t. none (Withdraw origin t) (λ e. other (sym (ap origin_or_first e)))) is)
+    (announcements_stay S T origin heard keeps (λ t events withdrawn. none (Announce origin t events withdrawn) (λ e. other (sym (ap origin_or_first e)))) is)
 
 -- an event is another record than a withdrawal, and than an announcement
 event_not_withdrawal : (o p : ℕ) (t s : Moment) (input : ℕ) (value : ℤ) → Event o t input value ≢ Withdraw p s
@@ -285,6 +286,16 @@ event_not_announcement o p t s input events withdrawn value e = cc
 
 withdrawal_not_announcement : (o p : ℕ) (t s : Moment) (events withdrawn : ℕ) → Withdraw o t ≢ Announce p s events withdrawn
 withdrawal_not_announcement o p t s events withdrawn e = cc
+
+-- a joint announcement changes nothing of any origin
+pub heard_joint : (S : Records) (tag : Moment) (events withdrawn : ℕ) (T : Records) (origin : ℕ) (heard : Heard) → IsWithOne S (Joint tag events withdrawn) T → IsHeard S origin heard → IsHeard T origin heard
+heard_joint S tag events withdrawn T origin heard more is =
+    let keeps = keeps_one S (Joint tag events withdrawn) T more in
+    let none = not_one S (Joint tag events withdrawn) T more in
+    heard_from T origin heard is.ordered_events is.ordered_withdrawn
+    (events_stay S T origin heard keeps (λ t payload. none (Event origin t payload.0 payload.1) (λ e. cc)) is)
+    (withdrawals_stay S T origin heard keeps (λ t. none (Withdraw origin t) (λ e. cc)) is)
+    (announcements_stay S T origin heard keeps (λ t events withdrawn. none (Announce origin t events withdrawn) (λ e. cc)) is)
 
 -- what one more event of the origin brings
 more_events : (S : Records) (origin : ℕ) (tag : Moment) (input : ℕ) (value : ℤ) (T : Records) → IsWithOne S (Event origin tag input value) T →
@@ -342,7 +353,7 @@ heard_event S origin tag input value T heard more new is =
       ]
     ]
 
-earlier_has : (doubled : Option Moment) (tag : Moment) (P : Moment → Type 0) → IfSome doubled P → P tag → P (earlier_of doubled tag)
+pub earlier_has : (doubled : Option Moment) (tag : Moment) (P : Moment → Type 0) → IfSome doubled P → P tag → P (earlier_of doubled tag)
 earlier_has None tag P h here = here
 earlier_has (Some t) tag P h here = elim (cases_Bool (is_before tag t)) [
   | inl b ↦ rw b here
@@ -353,7 +364,7 @@ earlier_has (Some t) tag P h here = elim (cases_Bool (is_before tag t)) [
 not_before_later : (t u v : Moment) → is_before t u ≡ false → is_before v u ≡ true → is_before t v ≡ false
 not_before_later t u v h k = grind (arith, nat_tests)
 
-earlier_least : (doubled : Option Moment) (tag t : Moment) → (t ≡ tag) ⊎ ((u : Moment) × (doubled ≡ Some u) × (is_before t u ≡ false)) → is_before t (earlier_of doubled tag) ≡ false
+pub earlier_least : (doubled : Option Moment) (tag t : Moment) → (t ≡ tag) ⊎ ((u : Moment) × (doubled ≡ Some u) × (is_before t u ≡ false)) → is_before t (earlier_of doubled tag) ≡ false
 earlier_least None tag t (inl e) = rw e (not_before_self tag)
 earlier_least None tag t (inr u) = absurd (let never : None ≡ Some u.0 = u.1 in cc)
 earlier_least (Some v) tag t (inl e) = elim (cases_Bool (is_before tag v)) [

@@ -11,20 +11,20 @@ use Rattle.warp_tag.specs.Moment.{Moment}
 use Rattle.warp_tag.specs.Table.{fresh}
 use Rattle.warp_tag.specs.declared.entry.Entry.{Entry}
 use Rattle.warp_record.specs.declared.record.Record.{Record}
-use Rattle.warp_record.specs.declared.record.Record.TheVariants.{Event, Withdraw, Announce}
+use Rattle.warp_record.specs.declared.record.Record.TheVariants.{Event, Withdraw, Announce, Joint}
 use Rattle.warp_table.specs.Records.{Records, IsIn, set_of}
-use Rattle.warp_table.specs.Names.{HasEvent, Tells, TellsPayload, origin_of}
+use Rattle.warp_table.specs.Names.{HasEvent, Tells, TellsPayload, origin_or_first}
 use Rattle.warp_table.specs.declared.names.Name.{Name}
 use Rattle.warp_table.specs.inner.Heard.{Announced, AreHeard, Heard, IsHeard, heard_at, nothing_heard, with_heard_event, with_tag}
 use Rattle.warp_table.specs.inner.Kept.{KeepsNames, is_named, kept_of}
 use Rattle.warp_table.specs.inner.News.{IsNewsOf}
-use Rattle.warp_table.proofs.Heard.{heard_announcement, heard_elsewhere, heard_event, heard_new_payload, heard_withdrawal, with_one}
+use Rattle.warp_table.proofs.Heard.{heard_announcement, heard_elsewhere, heard_event, heard_joint, heard_new_payload, heard_withdrawal, with_one}
 use Rattle.warp_table.proofs.Sets.{in_set}
 
 -- An event of the name
 
 -- what a set tells of a name has an event exactly if the set has one
-payload_told : (S : Records) (origin : ℕ) (tag : Moment) (payload : Option (ℕ × ℤ)) → TellsPayload S origin tag payload → IsTrue (is_some payload) ↔ ((p : ℕ × ℤ) × HasEvent S origin tag p)
+pub payload_told : (S : Records) (origin : ℕ) (tag : Moment) (payload : Option (ℕ × ℤ)) → TellsPayload S origin tag payload → IsTrue (is_some payload) ↔ ((p : ℕ × ℤ) × HasEvent S origin tag p)
 payload_told S origin tag None told = (λ h. absurd (false≢true h), λ h. absurd (told h.0 h.1))
 payload_told S origin tag (Some p) told = (λ h. (p, told.0), λ h. refl)
 
@@ -82,24 +82,31 @@ own_announcement records names own origin tag events withdrawn announced news ad
 
 -- All origins
 
+-- a joint announcement is heard by none of them
+pub all_heard_joint : (records : List Record) (heards : List Heard) (tag : Moment) (events withdrawn : ℕ) → AreHeard records heards → AreHeard (records ++ Joint tag events withdrawn ∷ []) heards
+all_heard_joint records heards tag events withdrawn all = record {
+  few = all.few;
+  each = λ origin. heard_joint (set_of records) tag events withdrawn (set_of (records ++ Joint tag events withdrawn ∷ [])) origin (heard_at heards origin) (with_one records (Joint tag events withdrawn)) (all.each origin);
+}
+
 -- what is looked up is what is heard of the origin
 pub looked_up : (heards : List Heard) (index origin : ℕ) (own : Heard) → own ≡ get_or heards index own → index < length heards → index ≡ origin → own ≡ heard_at heards origin
 looked_up heards index origin own here within same = here ∙ get_or_default heards index own nothing_heard within ∙ ap (heard_at heards) same
 
 -- what is heard of a record's own origin
-pub own_heard : (records : List Record) (old new : List Heard) (said : Record) (own : Heard) → ((origin : ℕ) → heard_at new origin ≡ heard_at old origin) → own ≡ heard_at new (origin_of said) →
-    AreHeard records old → IsHeard (set_of records) (origin_of said) own
-own_heard records old new said own same at heard = subst (λ (h : Heard). IsHeard (set_of records) (origin_of said) h) (sym (at ∙ same (origin_of said))) (heard.each (origin_of said))
+pub own_heard : (records : List Record) (old new : List Heard) (said : Record) (own : Heard) → ((origin : ℕ) → heard_at new origin ≡ heard_at old origin) → own ≡ heard_at new (origin_or_first said) →
+    AreHeard records old → IsHeard (set_of records) (origin_or_first said) own
+own_heard records old new said own same at heard = subst (λ (h : Heard). IsHeard (set_of records) (origin_or_first said) h) (sym (at ∙ same (origin_or_first said))) (heard.each (origin_or_first said))
 
 -- with what is heard of its own origin, a record is heard
-pub all_heard : (records : List Record) (old new : List Heard) (said : Record) (own : Heard) → ((origin : ℕ) → heard_at new origin ≡ heard_at old origin) → length new ≤ most_origins widest → origin_of said < length new →
-    AreHeard records old → IsHeard (set_of (records ++ said ∷ [])) (origin_of said) own → AreHeard (records ++ said ∷ []) (set new (origin_of said) own)
+pub all_heard : (records : List Record) (old new : List Heard) (said : Record) (own : Heard) → ((origin : ℕ) → heard_at new origin ≡ heard_at old origin) → length new ≤ most_origins widest → origin_or_first said < length new →
+    AreHeard records old → IsHeard (set_of (records ++ said ∷ [])) (origin_or_first said) own → AreHeard (records ++ said ∷ []) (set new (origin_or_first said) own)
 all_heard records old new said own same few within all heard = record {
-  few = omega (arith, length-set new (origin_of said) own);
-  each = λ origin. elim (cases_eq (origin_of said) origin) [
-    | inl here ↦ subst (λ (o : ℕ). IsHeard (set_of (records ++ said ∷ [])) o (heard_at (set new (origin_of said) own) o)) here
-        (subst (λ (h : Heard). IsHeard (set_of (records ++ said ∷ [])) (origin_of said) h) (sym (get_or-set_same new (origin_of said) own nothing_heard within)) heard)
-    | inr other ↦ subst (λ (h : Heard). IsHeard (set_of (records ++ said ∷ [])) origin h) (sym (get_or-set_other new (origin_of said) origin own nothing_heard (λ e. other (sym e)) ∙ same origin))
+  few = omega (arith, length-set new (origin_or_first said) own);
+  each = λ origin. elim (cases_eq (origin_or_first said) origin) [
+    | inl here ↦ subst (λ (o : ℕ). IsHeard (set_of (records ++ said ∷ [])) o (heard_at (set new (origin_or_first said) own) o)) here
+        (subst (λ (h : Heard). IsHeard (set_of (records ++ said ∷ [])) (origin_or_first said) h) (sym (get_or-set_same new (origin_or_first said) own nothing_heard within)) heard)
+    | inr other ↦ subst (λ (h : Heard). IsHeard (set_of (records ++ said ∷ [])) origin h) (sym (get_or-set_other new (origin_or_first said) origin own nothing_heard (λ e. other (sym e)) ∙ same origin))
         (heard_elsewhere (set_of records) said (set_of (records ++ said ∷ [])) origin (heard_at old origin) (with_one records said) other (all.each origin))
   ];
 }

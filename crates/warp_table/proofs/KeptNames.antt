@@ -9,13 +9,13 @@ use Rattle.warp_tag.specs.Moment.{Moment}
 use Rattle.warp_tag.specs.Table.{fresh, with_event, with_withdrawal}
 use Rattle.warp_tag.specs.declared.entry.Entry.{Entry}
 use Rattle.warp_record.specs.declared.record.Record.{Record}
-use Rattle.warp_record.specs.declared.record.Record.TheVariants.{Event, Withdraw, Announce}
+use Rattle.warp_record.specs.declared.record.Record.TheVariants.{Event, Withdraw, Announce, Joint}
 use Rattle.warp_table.specs.Names.{IsOf, Tells, TellsEntry}
 use Rattle.warp_table.specs.Records.{set_of}
 use Rattle.warp_table.specs.LogNames.{is_other, names_of}
 use Rattle.warp_table.specs.declared.names.Name.{Name}
 use Rattle.warp_table.specs.inner.Kept.{KeepsNames, is_named, kept_of, put}
-use Rattle.warp_table.proofs.FirstNames.{is_one, is_one-Decides, named-Decides, names_announce, names_event, with_name}
+use Rattle.warp_table.proofs.FirstNames.{is_one, is_one-Decides, named-Decides, names_announce, names_joint, names_event, with_name}
 use Rattle.warp_table.proofs.Places.{lookup_inserted}
 use Rattle.warp_table.proofs.Sets.{set_append}
 use Rattle.warp_table.proofs.Told.{event_told, other_told, withdrawal_told, with_one}
@@ -81,6 +81,13 @@ announcement_noted records names o t events withdrawn h = record {
   order = h.order ∙ sym (names_announce records o t events withdrawn);
   each = λ p s. subst (λ S. Tells S p s (lookup (is_named p s) names)) (sym (set_append records (Announce o t events withdrawn ∷ [])))
       (other_told (set_of records) (Announce o t events withdrawn) p s (λ of. of) (lookup (is_named p s) names) (h.each p s));
+}
+
+pub joint_noted : (records : List Record) (names : List (Name × Entry)) (t : Moment) (events withdrawn : ℕ) → KeepsNames records names → KeepsNames (records ++ Joint t events withdrawn ∷ []) names
+joint_noted records names t events withdrawn h = record {
+  order = h.order ∙ sym (names_joint records t events withdrawn);
+  each = λ p s. subst (λ S. Tells S p s (lookup (is_named p s) names)) (sym (set_append records (Joint t events withdrawn ∷ [])))
+      (other_told (set_of records) (Joint t events withdrawn) p s (λ of. of) (lookup (is_named p s) names) (h.each p s));
 }
 
 -- the entry is of the name that came at this place, and is what the set tells of it

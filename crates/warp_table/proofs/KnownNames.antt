@@ -11,13 +11,13 @@ use Rattle.warp_tag.specs.Moment.{Moment}
 use Rattle.warp_tag.specs.Table.{fresh, greater, with_event, with_withdrawal}
 use Rattle.warp_tag.specs.declared.entry.Entry.{Entry}
 use Rattle.warp_record.specs.declared.record.Record.{Record}
-use Rattle.warp_record.specs.declared.record.Record.TheVariants.{Event, Withdraw, Announce}
+use Rattle.warp_record.specs.declared.record.Record.TheVariants.{Event, Withdraw, Announce, Joint}
 use Rattle.warp_table.specs.declared.rows.Known.{Known}
 use Rattle.warp_table.specs.declared.names.Name.{Name}
 use Rattle.warp_table.specs.inner.Kept.{HoldsEvent, KeepsNames, entries_of, entry_of, is_named, kept_of, known_of, nothing_known, payload_at, payload_of, put, put_known, with_event_at, with_withdrawal_at}
 use Rattle.warp_table.proofs.EventPlaces.{holds_own}
 use Rattle.warp_table.proofs.FirstNames.{named-Decides}
-use Rattle.warp_table.proofs.KeptNames.{IsTold, announcement_noted, event_noted, told_at, withdrawal_noted}
+use Rattle.warp_table.proofs.KeptNames.{IsTold, announcement_noted, joint_noted, event_noted, told_at, withdrawal_noted}
 use Rattle.warp_table.proofs.Places.{record_same}
 
 -- The entries of names beside a list of records
@@ -100,6 +100,12 @@ pub announcement_kept : (records : List Record) (names : List (Name × Known)) (
 announcement_kept records names o t events withdrawn all h =
     subst (KeepsNames (records ++ Announce o t events withdrawn ∷ [])) (sym (entries_same records (Announce o t events withdrawn) names all))
     (announcement_noted records (entries_of records names) o t events withdrawn h)
+
+pub joint_kept : (records : List Record) (names : List (Name × Known)) (t : Moment) (events withdrawn : ℕ) → All (λ kept. HoldsEvent records kept.0 kept.1.event) names → KeepsNames records (entries_of records names) →
+    KeepsNames (records ++ Joint t events withdrawn ∷ []) (entries_of (records ++ Joint t events withdrawn ∷ []) names)
+joint_kept records names t events withdrawn all h =
+    subst (KeepsNames (records ++ Joint t events withdrawn ∷ [])) (sym (entries_same records (Joint t events withdrawn) names all))
+    (joint_noted records (entries_of records names) t events withdrawn h)
 
 -- what is known of a name at a place is told there, as its entry
 pub told_of : (records : List Record) (names : List (Name × Known)) (number : ℕ) (name : Name) (known : Known) → KeepsNames records (entries_of records names) → Some (name, known) ≡ slice_get names number

@@ -31,5 +31,12 @@ pub mod Heard
 pub mod HeardNews
 pub mod LeastReach
 pub mod SomeHeard
+pub mod JointCounts
+pub mod JointNames
+pub mod JointLeast
+pub mod JointNext
+pub mod JointReach
+pub mod JointHorizons
+pub mod SomeJoint
 pub mod NoRecords
 pub mod CountedNames

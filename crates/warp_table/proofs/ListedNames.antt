@@ -7,7 +7,7 @@ use Rattle.std.proofs.lemmas.List.Elements.{filter_passes}
 use Rattle.std.proofs.lemmas.List.Kept.{AllPairs-cons, AllPairs-filter}
 use Rattle.warp_tag.specs.Moment.{Moment}
 use Rattle.warp_record.specs.declared.record.Record.{Record}
-use Rattle.warp_record.specs.declared.record.Record.TheVariants.{Event, Withdraw, Announce}
+use Rattle.warp_record.specs.declared.record.Record.TheVariants.{Event, Withdraw, Announce, Joint}
 use Rattle.warp_table.specs.Names.{IsOf}
 use Rattle.warp_table.specs.Records.{IsIn, set_of}
 use Rattle.warp_table.specs.LogNames.{is_other, names_of}
@@ -45,6 +45,7 @@ names_differ [] = λ i j d below within. absurd (omega (arith, within))
 names_differ (Event o t input value ∷ records) = name_first (o, t) (names_of records) (names_differ records)
 names_differ (Withdraw o t ∷ records) = name_first (o, t) (names_of records) (names_differ records)
 names_differ (Announce o t events withdrawn ∷ records) = names_differ records
+names_differ (Joint t events withdrawn ∷ records) = names_differ records
 
 -- a record of the name is in the list
 abbrev HasRecord : List Record → ℕ → Moment → Type 0
@@ -66,6 +67,7 @@ module _ (origin : ℕ) (tag : Moment) where
     | inr there ↦ record_behind (Withdraw o t) records (has_record records there)
   ]
   has_record (Announce o t events withdrawn ∷ records) has = record_behind (Announce o t events withdrawn) records (has_record records has)
+  has_record (Joint t events withdrawn ∷ records) has = record_behind (Joint t events withdrawn) records (has_record records has)
 
   -- the first record is of the name, or one behind it
   first_or_behind : (first : Record) (records : List Record) → HasRecord (first ∷ records) origin tag → IsOf origin tag first ⊎ HasRecord records origin tag
@@ -86,6 +88,10 @@ module _ (origin : ℕ) (tag : Moment) where
     | inr there ↦ name_kept (o, t) (origin, tag) (names_of records) (has_name records there)
   ]
   has_name (Announce o t events withdrawn ∷ records) h = elim (first_or_behind (Announce o t events withdrawn) records h) [
+    | inl none ↦ absurd none
+    | inr there ↦ has_name records there
+  ]
+  has_name (Joint t events withdrawn ∷ records) h = elim (first_or_behind (Joint t events withdrawn) records h) [
     | inl none ↦ absurd none
     | inr there ↦ has_name records there
   ]

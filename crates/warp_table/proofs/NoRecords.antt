@@ -5,7 +5,7 @@ use Rattle.std.proofs.lemmas.List.{get_or_past}
 use Rattle.std.proofs.lemmas.Option.{slice_get_past}
 use Rattle.warp_tag.specs.Limits.{most_records, widest}
 use Rattle.warp_record.specs.declared.record.Record.{Record}
-use Rattle.warp_record.specs.declared.record.Record.TheVariants.{Event, Withdraw, Announce}
+use Rattle.warp_record.specs.declared.record.Record.TheVariants.{Event, Withdraw, Announce, Joint}
 use Rattle.warp_table.specs.Log.{IsAt}
 use Rattle.warp_table.specs.Records.{set_of}
 use Rattle.warp_table.specs.inner.Heard.{AreHeard, IsHeard, nothing_heard}
@@ -16,6 +16,7 @@ no_place : (said : Record) (place : ℕ) → place_in [] [] no_others said ≡ S
 no_place (Event origin tag input value) place is = cc
 no_place (Withdraw origin tag) place is = cc
 no_place (Announce origin tag events withdrawn) place is = cc
+no_place (Joint tag events withdrawn) place is = cc
 
 not_placed : (said : Record) (place : ℕ) → IsAt [] place said → place_in [] [] no_others said ≡ Some place
 not_placed said place at =

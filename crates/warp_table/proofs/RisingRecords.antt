@@ -74,6 +74,12 @@ not_announced q es event all =
     not_found q es (All-weaker (λ (e : Record × ℕ). kind_of e.0 ≡ 2) (λ (e : Record × ℕ). is_eq (record_cmp q e.0) ≡ false)
     (λ e kind. false_from_ne_true (is_eq (record_cmp q e.0)) (λ same. omega (arith, event, kind, ap kind_of ((cmp-Decides q e.0).0 same)))) es all)
 
+-- nor a joint announcement among those of origins
+pub not_listed : (q : Record) (es : List (Record × ℕ)) → kind_of q ≡ 3 → All (λ e. kind_of e.0 ≡ 2) es → lookup (is_at (record_cmp q)) es ≡ None
+not_listed q es joint all =
+    not_found q es (All-weaker (λ (e : Record × ℕ). kind_of e.0 ≡ 2) (λ (e : Record × ℕ). is_eq (record_cmp q e.0) ≡ false)
+    (λ e kind. false_from_ne_true (is_eq (record_cmp q e.0)) (λ same. omega (arith, joint, kind, ap kind_of ((cmp-Decides q e.0).0 same)))) es all)
+
 rises_tail : (e : Record × ℕ) (es : List (Record × ℕ)) → Rises (e ∷ es) → Rises es
 rises_tail e es rises = λ i j d before within. rises (suc i) (suc j) d (omega (arith, before)) (omega (arith, within))
 

@@ -9,7 +9,7 @@ use Rattle.std.proofs.lemmas.List.Folds.{list_any-append}
 use Rattle.std.proofs.lemmas.Map.Made.{IsDistinct-from_AllPairs, is_member-Decides, length-from_same_keys}
 use Rattle.warp_tag.specs.Moment.{Moment, is_same}
 use Rattle.warp_record.specs.declared.record.Record.{Record}
-use Rattle.warp_record.specs.declared.record.Record.TheVariants.{Event, Withdraw, Announce}
+use Rattle.warp_record.specs.declared.record.Record.TheVariants.{Event, Withdraw, Announce, Joint}
 use Rattle.warp_table.specs.Records.{HasSize, IsIn, Records, same_record, set_of, union}
 
 -- a test of sameness of tags holds of one tag alone
@@ -36,6 +36,17 @@ same_record-Decides (Announce o t events withdrawn) (Announce p s other_events o
     (λ e i. Announce (e.0.0.0 i) (e.0.0.1 i) (e.0.1 i) (e.1 i)) (λ e. (((cc, cc), cc), cc))
     (Decides-and (o == p && is_same t s && events == other_events) (withdrawn == other_withdrawn)
     (Decides-and (o == p && is_same t s) (events == other_events) (same_name o p t s) (Decides-eqb events other_events)) (Decides-eqb withdrawn other_withdrawn))
+same_record-Decides (Joint t events withdrawn) (Joint s other_events other_withdrawn) =
+    Decides-like (same_record (Joint t events withdrawn) (Joint s other_events other_withdrawn))
+    (λ e i. Joint (e.0.0 i) (e.0.1 i) (e.1 i)) (λ e. ((cc, cc), cc))
+    (Decides-and (is_same t s && events == other_events) (withdrawn == other_withdrawn)
+    (Decides-and (is_same t s) (events == other_events) (same_tag t s) (Decides-eqb events other_events)) (Decides-eqb withdrawn other_withdrawn))
+same_record-Decides (Event o t input value) (Joint s events withdrawn) = (λ e. cc, λ e. cc)
+same_record-Decides (Withdraw o t) (Joint s events withdrawn) = (λ e. cc, λ e. cc)
+same_record-Decides (Announce o t events withdrawn) (Joint s other_events other_withdrawn) = (λ e. cc, λ e. cc)
+same_record-Decides (Joint t events withdrawn) (Event p s input value) = (λ e. cc, λ e. cc)
+same_record-Decides (Joint t events withdrawn) (Withdraw p s) = (λ e. cc, λ e. cc)
+same_record-Decides (Joint t events withdrawn) (Announce p s other_events other_withdrawn) = (λ e. cc, λ e. cc)
 same_record-Decides (Event o t input value) (Withdraw p s) = (λ e. cc, λ e. cc)
 same_record-Decides (Event o t input value) (Announce p s events withdrawn) = (λ e. cc, λ e. cc)
 same_record-Decides (Withdraw o t) (Event p s input value) = (λ e. cc, λ e. cc)

@@ -5,7 +5,7 @@ use Rattle.warp_tag.specs.Table.{with_event, with_withdrawal}
 use Rattle.warp_tag.specs.declared.entry.Entry.{Entry}
 use Rattle.warp_tag.proofs.Tables.{length-changed}
 use Rattle.warp_record.specs.declared.record.Record.{Record}
-use Rattle.warp_record.specs.declared.record.Record.TheVariants.{Event, Withdraw, Announce}
+use Rattle.warp_record.specs.declared.record.Record.TheVariants.{Event, Withdraw, Announce, Joint}
 use Rattle.warp_table.specs.LogNames.{with_record, table_of}
 
 -- one more record changes its one name
@@ -16,6 +16,7 @@ length-with_record : (table : List Entry) (said : Record) → length (with_recor
 length-with_record table (Event origin tag input value) = length-changed (with_event input value) origin tag table
 length-with_record table (Withdraw origin tag) = length-changed with_withdrawal origin tag table
 length-with_record table (Announce origin tag events withdrawn) = omega arith
+length-with_record table (Joint tag events withdrawn) = omega arith
 
 length-table_from : (table : List Entry) (records : List Record) → length (fold with_record table records) ≤ length table + length records
 length-table_from table [] = omega arith

@@ -10,12 +10,13 @@ use Rattle.std.proofs.lemmas.Map.Made.{is_member-Decides}
 use Rattle.warp_tag.specs.Moment.{Moment, is_before, is_same}
 use Rattle.warp_tag.proofs.Tags.{not_before_self}
 use Rattle.warp_record.specs.declared.record.Record.{Record}
-use Rattle.warp_record.specs.declared.record.Record.TheVariants.{Event, Withdraw, Announce}
+use Rattle.warp_record.specs.declared.record.Record.TheVariants.{Event, Withdraw, Announce, Joint}
 use Rattle.warp_table.specs.Records.{Records, IsIn, set_of}
-use Rattle.warp_table.specs.Names.{origin_of}
-use Rattle.warp_table.specs.Announced.{IsBroken, ReachesTo, beginning}
+use Rattle.warp_table.specs.Names.{origin_or_first}
+use Rattle.warp_table.specs.Announced.{IsBroken, beginning}
+use Rattle.warp_table.specs.Horizons.{ReachesAlone}
 use Rattle.warp_table.specs.inner.Heard.{Announced, Heard, IsExceededBy, IsHeard, IsHeardTo, IsReachedBy, count_before, earlier_of, nothing_heard, with_tag}
-use Rattle.warp_table.proofs.Heard.{IsWithOne, breaks, heard_again, heard_announcement, heard_elsewhere, heard_event, heard_new_payload, heard_nothing, heard_withdrawal, reaches}
+use Rattle.warp_table.proofs.Heard.{IsWithOne, breaks, heard_again, heard_announcement, heard_elsewhere, heard_event, heard_joint, heard_new_payload, heard_nothing, heard_withdrawal, reaches}
 use Rattle.warp_table.proofs.Members.{Contains-cases, Contains-here, Contains-nil, Contains-there}
 use Rattle.warp_table.proofs.Sets.{in_set, same_tag}
 
@@ -35,7 +36,7 @@ with_first one records = record {
 }
 
 -- with a new record of the origin something is heard of it
-next_heard : (S : Records) (one : Record) (T : Records) (heard : Heard) → IsWithOne S one T → (IsIn S one → ⊥) → IsHeard S (origin_of one) heard → (now : Heard) × IsHeard T (origin_of one) now
+next_heard : (S : Records) (one : Record) (T : Records) (heard : Heard) → IsWithOne S one T → (IsIn S one → ⊥) → IsHeard S (origin_or_first one) heard → (now : Heard) × IsHeard T (origin_or_first one) now
 next_heard S (Event origin tag input value) T heard more new is = elim (cases_Bool (is_member is_same heard.events tag)) [
   | inl has ↦ (
     record heard { doubled = Some (earlier_of heard.doubled tag) },
@@ -65,9 +66,10 @@ next_heard S (Announce origin tag events withdrawn) T heard more new is =
             ],
           )) is,
     )
+next_heard S (Joint tag events withdrawn) T heard more new is = (heard, heard_joint S tag events withdrawn T 0 heard more is)
 
 -- something is heard of an origin
-some_heard : (records : List Record) (origin : ℕ) → (heard : Heard) × IsHeard (set_of records) origin heard
+pub some_heard : (records : List Record) (origin : ℕ) → (heard : Heard) × IsHeard (set_of records) origin heard
 some_heard [] origin = (nothing_heard, heard_nothing origin)
 some_heard (one ∷ records) origin =
     let was = some_heard records origin in
@@ -75,7 +77,7 @@ some_heard (one ∷ records) origin =
     let T : Records = set_of (one ∷ records) in
     elim (cases_Bool (S one)) [
       | inl there ↦ (was.0, heard_again S one T origin was.0 (with_first one records) there was.1)
-      | inr new ↦ elim (cases_eq (origin_of one) origin) [
+      | inr new ↦ elim (cases_eq (origin_or_first one) origin) [
         | inl own ↦ subst (λ (o : ℕ). (heard : Heard) × IsHeard T o heard) own
             (next_heard S one T was.0 (with_first one records) (λ is. both_ways (S one) new is) (subst (λ (o : ℕ). IsHeard S o was.0) (sym own) was.1))
         | inr other ↦ (was.0, heard_elsewhere S one T origin was.0 (with_first one records) other was.1)
@@ -85,9 +87,9 @@ some_heard (one ∷ records) origin =
 -- The greatest tag
 
 -- of the announcements that pass a test this is the greatest tag, or the beginning where none does
-record IsGreatestTag (p : Announced → Bool) (announced : List Announced) (end : Moment) : Type 0 where
-  some : ((a : Announced) × Contains announced a × (p a ≡ true) × (a.tag ≡ end)) ⊎ (end ≡ beginning)
-  greatest : (a : Announced) → Contains announced a → p a ≡ true → is_before end a.tag ≡ false
+pub record IsGreatestTag (p : Announced → Bool) (announced : List Announced) (end : Moment) : Type 0 where
+  pub some : ((a : Announced) × Contains announced a × (p a ≡ true) × (a.tag ≡ end)) ⊎ (end ≡ beginning)
+  pub greatest : (a : Announced) → Contains announced a → p a ≡ true → is_before end a.tag ≡ false
 
 -- what is not behind a tag is not behind a later one
 not_behind_later : (t u v : Moment) → is_before t u ≡ false → is_before t v ≡ true → is_before v u ≡ false
@@ -135,14 +137,14 @@ greater_tag p first announced end true here is = elim (cases_Bool (is_before end
   )
 ]
 
-greatest_tag : (p : Announced → Bool) (announced : List Announced) → (end : Moment) × IsGreatestTag p announced end
+pub greatest_tag : (p : Announced → Bool) (announced : List Announced) → (end : Moment) × IsGreatestTag p announced end
 greatest_tag p [] = (beginning, record { some = inr refl; greatest = λ a has passes. absurd (Contains-nil a has) })
 greatest_tag p (first ∷ announced) = let rest = greatest_tag p announced in greater_tag p first announced rest.0 (p first) refl rest.1
 
 -- What is heard decides
 
 -- a test of numbers holds of just these
-at_most : (m n : ℕ) → Decides (nat_le m n) (m ≤ n)
+pub at_most : (m n : ℕ) → Decides (nat_le m n) (m ≤ n)
 at_most m n = (leb-true m n, le-leb m n)
 
 -- up to some tag announcements are heard to be reached
@@ -169,7 +171,7 @@ some_end heard = (
     best = greatest_tag is_reached heard.announced
 
 -- a name of two payloads is before an end or is not
-doubled_before : (doubled : Option Moment) (end : Moment) → (b : Bool) × Decides b ((t : Moment) × (doubled ≡ Some t) × IsTrue (is_before t end))
+pub doubled_before : (doubled : Option Moment) (end : Moment) → (b : Bool) × Decides b ((t : Moment) × (doubled ≡ Some t) × IsTrue (is_before t end))
 doubled_before None end = (false, (λ h. absurd (false≢true h), λ h. absurd (let never : None ≡ Some h.0 = h.1 in cc)))
 doubled_before (Some t) end = (
   is_before t end,
@@ -191,7 +193,7 @@ exceeds heard a =
     )
 
 -- one of a list is so or none is
-some_of : (P : Announced → Type 0) → ((a : Announced) → (b : Bool) × Decides b (P a)) → (announced : List Announced) → (b : Bool) × Decides b ((a : Announced) × Contains announced a × P a)
+pub some_of : {X : Type 0} (P : X → Type 0) → ((a : X) → (b : Bool) × Decides b (P a)) → (announced : List X) → (b : Bool) × Decides b ((a : X) × Contains announced a × P a)
 some_of P each [] = (false, (λ h. absurd (false≢true h), λ h. absurd (Contains-nil h.0 h.1)))
 some_of P each (first ∷ announced) =
     let here = each first in
@@ -210,10 +212,10 @@ some_of P each (first ∷ announced) =
       ),
     )
 
--- In every set of a list an origin's announcements reach to some tag
+-- In every set of a list an origin's own announcements reach to some tag
 
-pub some_reach : (records : List Record) (origin : ℕ) → (end : Moment) × ReachesTo (set_of records) origin end
-some_reach records origin =
+pub some_reach_alone : (records : List Record) (origin : ℕ) → (end : Moment) × ReachesAlone (set_of records) origin end
+some_reach_alone records origin =
     let heard = some_heard records origin in
     let end = some_end heard.0 in
     (end.0, reaches (set_of records) origin heard.0 end.0 heard.1 end.1)

@@ -5,7 +5,7 @@ use Rattle.warp_tag.specs.Moment.{Moment}
 use Rattle.warp_table.specs.inner.Heard.{with_tag, with_tags}
 use Rattle.warp_table.proofs.BlockLists.{item_tag, length-with_item}
 
-length-with_tag : (tag : Moment) (tags : List Moment) → length (with_tag tag tags) ≡ suc (length tags)
+pub length-with_tag : (tag : Moment) (tags : List Moment) → length (with_tag tag tags) ≡ suc (length tags)
 length-with_tag tag tags = ap (λ (l : List Moment). length l) (sym (item_tag tag tags)) ∙ length-with_item (λ t. t) tag tags
 
 length-with_tags : (more tags : List Moment) → length (with_tags more tags) ≡ length tags + length more

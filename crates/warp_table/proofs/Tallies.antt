@@ -19,7 +19,7 @@ use Rattle.warp_table.specs.declared.tally.EventOrWithdrawal.TheVariants.{Event,
 use Rattle.warp_table.specs.declared.tally.Tally.{Tally}
 use Rattle.warp_table.specs.declared.tally.Verdict.{Verdict}
 use Rattle.warp_table.proofs.Members.{All-insert, AllPairs-first, AllPairs-one, AllPairs-tail, Contains-cases, Contains-here, Contains-insert, Contains-from_insert, Contains-there, Contains-map, Contains-from_map, Contains-nil}
-use Rattle.warp_table.proofs.InOrder.{ascending-with_tag, before_not_behind, count-with_tag_before, count-with_tag_behind, count_before-le, not_beyond}
+use Rattle.warp_table.proofs.InOrder.{before_not_behind, count-with_tag_before, count-with_tag_behind, count_before-le, not_beyond}
 
 -- One more name before its tag
 
@@ -164,7 +164,7 @@ map-same : {Y : Type 0} (g : Tally → Y) (f : Tally → Tally) → ((c : Tally)
 map-same g f same [] = refl
 map-same g f same (x ∷ xs) = ap (λ y. y ∷ map g (map f xs)) (same x) ∙ ap (λ ys. g x ∷ ys) (map-same g f same xs)
 
-map-counted : {Y : Type 0} (g : Tally → Y) (kind : EventOrWithdrawal) → ((c : Tally) → g (with_name kind c) ≡ g c) → (tag : Moment) (xs : List Tally) → map g (counted kind tag xs) ≡ map g xs
+pub map-counted : {Y : Type 0} (g : Tally → Y) (kind : EventOrWithdrawal) → ((c : Tally) → g (with_name kind c) ≡ g c) → (tag : Moment) (xs : List Tally) → map g (counted kind tag xs) ≡ map g xs
 map-counted g kind same tag xs =
     let n = place_of tag xs in
     map-append g (take n xs) (map (with_name kind) (drop n xs))
@@ -180,7 +180,7 @@ length-counted kind tag xs =
     sym (length-map (counted kind tag xs) announcement_of) ∙ ap length (announced-counted kind tag xs) ∙ length-map xs announcement_of
 
 -- tallies of the same tags are in order together
-in_order-same : (xs ys : List Tally) → map (λ c. c.tag) xs ≡ map (λ c. c.tag) ys → AreInOrder xs → AreInOrder ys
+pub in_order-same : (xs ys : List Tally) → map (λ c. c.tag) xs ≡ map (λ c. c.tag) ys → AreInOrder xs → AreInOrder ys
 in_order-same xs ys same ordered i j d lt l =
     let tag_of : Tally → Moment = λ c. c.tag in
     let long : length xs ≡ length ys = sym (length-map xs tag_of) ∙ ap length same ∙ length-map ys tag_of in
@@ -211,7 +211,7 @@ All-from_both : (P Q R : Tally → Type 0) → ((c : Tally) → P c → Q c → 
 All-from_both P Q R f xs p q = λ k d l. f (get_or xs k d) (p k d l) (q k d l)
 
 -- where a name is counted beyond its tag, the tallies count it
-counts_more : (N : Tally → Type 0) (C : Tally → Type 0) (kind : EventOrWithdrawal) (tag : Moment) →
+pub counts_more : (N : Tally → Type 0) (C : Tally → Type 0) (kind : EventOrWithdrawal) (tag : Moment) →
     ((c : Tally) → C c → is_before tag c.tag ≡ false → N c) → ((c : Tally) → C c → is_before tag c.tag ≡ true → N (with_name kind c)) →
     (xs : List Tally) → AreInOrder xs → All C xs → All N (counted kind tag xs)
 counts_more N C kind tag front later xs ordered all =
@@ -220,17 +220,15 @@ counts_more N C kind tag front later xs ordered all =
     (All-from_both C (λ c. is_before tag c.tag ≡ false) N front (take n xs) (All-take C n xs all) (front_not_beyond tag xs))
     (All-map N (with_name kind) (drop n xs) (All-from_both C (λ c. is_before tag c.tag ≡ true) (λ c. N (with_name kind c)) later (drop n xs) (All-drop C n xs all) (are_beyond tag xs ordered)))
 
-verdict_more : (kind : EventOrWithdrawal) (doubled : Option Moment) (tag : Moment) (xs : List Tally) (v : Verdict) → IsVerdict doubled xs v → IsVerdict doubled (counted kind tag xs) (fold with_tally v (map (with_name kind) (beyond tag xs)))
+pub verdict_more : (kind : EventOrWithdrawal) (doubled : Option Moment) (tag : Moment) (xs : List Tally) (v : Verdict) → IsVerdict doubled xs v → IsVerdict doubled (counted kind tag xs) (fold with_tally v (map (with_name kind) (beyond tag xs)))
 verdict_more kind doubled tag xs v was =
     let n = place_of tag xs in
     verdict_counted kind doubled (take n xs) (drop n xs) v (subst (λ (ys : List Tally). IsVerdict doubled ys v) (sym (take-append-drop n xs)) was)
 
 -- one more name that has an event
-pub kept_event : (tag : Moment) (names gone : List Moment) (doubled : Option Moment) (xs : List Tally) (v : Verdict) → AreKept names gone doubled xs v → (Contains names tag → ⊥) →
+pub kept_event : (tag : Moment) (names gone : List Moment) (doubled : Option Moment) (xs : List Tally) (v : Verdict) → AreKept names gone doubled xs v →
     AreKept (with_tag tag names) gone doubled (counted Event tag xs) (fold with_tally v (map (with_name Event) (beyond tag xs)))
-kept_event tag names gone doubled xs v was new = record {
-  events = ascending-with_tag tag names was.events new;
-  withdrawn = was.withdrawn;
+kept_event tag names gone doubled xs v was = record {
   in_order = in_order-same xs (counted Event tag xs) (sym (map-counted (λ c. c.tag) Event (tag-with_name Event) tag xs)) was.in_order;
   counts = counts_more (Counts (with_tag tag names) gone) (Counts names gone) Event tag
       (λ c h b. record { events = h.events ∙ sym (count-with_tag_behind c.tag tag names b); withdrawn = h.withdrawn })
@@ -240,11 +238,9 @@ kept_event tag names gone doubled xs v was new = record {
 }
 
 -- one more name that has a withdrawal
-pub kept_withdrawal : (tag : Moment) (names gone : List Moment) (doubled : Option Moment) (xs : List Tally) (v : Verdict) → AreKept names gone doubled xs v → (Contains gone tag → ⊥) →
+pub kept_withdrawal : (tag : Moment) (names gone : List Moment) (doubled : Option Moment) (xs : List Tally) (v : Verdict) → AreKept names gone doubled xs v →
     AreKept names (with_tag tag gone) doubled (counted Withdrawal tag xs) (fold with_tally v (map (with_name Withdrawal) (beyond tag xs)))
-kept_withdrawal tag names gone doubled xs v was new = record {
-  events = was.events;
-  withdrawn = ascending-with_tag tag gone was.withdrawn new;
+kept_withdrawal tag names gone doubled xs v was = record {
   in_order = in_order-same xs (counted Withdrawal tag xs) (sym (map-counted (λ c. c.tag) Withdrawal (tag-with_name Withdrawal) tag xs)) was.in_order;
   counts = counts_more (Counts names (with_tag tag gone)) (Counts names gone) Withdrawal tag
       (λ c h b. record { events = h.events; withdrawn = h.withdrawn ∙ sym (count-with_tag_behind c.tag tag gone b) })
@@ -309,7 +305,7 @@ or_swapped false true false d = refl
 or_swapped false false c d = refl
 
 -- the verdict with one more announcement
-verdict-insert : (doubled : Option Moment) (xs : List Tally) (n : ℕ) (y : Tally) (v : Verdict) → IsVerdict doubled xs v →
+pub verdict-insert : (doubled : Option Moment) (xs : List Tally) (n : ℕ) (y : Tally) (v : Verdict) → IsVerdict doubled xs v →
     IsVerdict doubled (insert xs n y) (record (with_tally v y) { is_broken = (with_tally v y).is_broken || has_doubled doubled y })
 verdict-insert doubled xs n y v was =
     let end : Moment = (with_tally v y).reached in
@@ -336,8 +332,6 @@ verdict-insert doubled xs n y v was =
 pub kept_announcement : (y : Tally) (n : ℕ) (names gone : List Moment) (doubled : Option Moment) (xs : List Tally) (v : Verdict) → AreKept names gone doubled xs v → n ≡ place_of y.tag xs → Counts names gone y →
     AreKept names gone doubled (insert xs n y) (record (with_tally v y) { is_broken = (with_tally v y).is_broken || has_doubled doubled y })
 kept_announcement y n names gone doubled xs v was place counts = record {
-  events = was.events;
-  withdrawn = was.withdrawn;
   in_order = in_order-insert xs y n place was.in_order;
   counts = All-insert (Counts names gone) xs n y counts was.counts;
   judged = verdict-insert doubled xs n y v was.judged;
@@ -370,14 +364,14 @@ doubled-earlier (Some t) tag c h = elim (cases_Bool (is_before tag t)) [
   | inr b ↦ rw b h
 ]
 
-list_any-either : (p q : Tally → Bool) → ((c : Tally) → p c ≡ true → q c ≡ true) → (xs : List Tally) → list_any p xs ≡ true → list_any q xs ≡ true
+pub list_any-either : (p q : Tally → Bool) → ((c : Tally) → p c ≡ true → q c ≡ true) → (xs : List Tally) → list_any p xs ≡ true → list_any q xs ≡ true
 list_any-either p q weaker [] h = h
 list_any-either p q weaker (x ∷ xs) h = elim (or_cases (p x) (list_any p xs) h) [
   | inl a ↦ or_left (q x) (list_any q xs) (weaker x a)
   | inr b ↦ or_right (q x) (list_any q xs) (list_any-either p q weaker xs b)
 ]
 
-or_covered : (a b c : Bool) → (b ≡ true → c ≡ true) → ((a || b) || c) ≡ (a || c)
+pub or_covered : (a b c : Bool) → (b ≡ true → c ≡ true) → ((a || b) || c) ≡ (a || c)
 or_covered true b c h = refl
 or_covered false true c h = sym (h refl)
 or_covered false false c h = refl
@@ -398,7 +392,7 @@ last_doubled t xs c ordered some last = elim (cases_Bool (is_before t c.tag)) [
           | inr other ↦ not_beyond t (get_or xs k d).tag c.tag (subst (λ (x : Tally). is_before x.tag (get_or xs k d).tag ≡ false) there (ordered k m d (omega arith) (omega arith))) b
         ]
 
-verdict_doubled : (doubled : Option Moment) (tag : Moment) (xs : List Tally) (v : Verdict) (before : Bool) → IsVerdict doubled xs v → list_any (has_doubled (Some (earlier_of doubled tag))) xs ≡ before →
+pub verdict_doubled : (doubled : Option Moment) (tag : Moment) (xs : List Tally) (v : Verdict) (before : Bool) → IsVerdict doubled xs v → list_any (has_doubled (Some (earlier_of doubled tag))) xs ≡ before →
     IsVerdict (Some (earlier_of doubled tag)) xs (record v { is_broken = v.is_broken || before })
 verdict_doubled doubled tag xs v before was is = record {
   some = was.some;
@@ -413,8 +407,6 @@ verdict_doubled doubled tag xs v before was is = record {
 pub kept_doubled : (tag : Moment) (names gone : List Moment) (doubled : Option Moment) (xs : List Tally) (v : Verdict) → AreKept names gone doubled xs v →
     AreKept names gone (Some (earlier_of doubled tag)) xs (record v { is_broken = v.is_broken || list_any (λ c. is_before (earlier_of doubled tag) c.tag) xs })
 kept_doubled tag names gone doubled xs v was = record {
-  events = was.events;
-  withdrawn = was.withdrawn;
   in_order = was.in_order;
   counts = was.counts;
   judged = verdict_doubled doubled tag xs v (list_any (λ c. is_before (earlier_of doubled tag) c.tag) xs) was.judged refl;

@@ -12,7 +12,7 @@ use Rattle.warp_tag.proofs.Tables.{KeepsNames, table_changed, with_event_names}
 use Rattle.warp_tag.proofs.Known.{named_self, known_changed, known_elsewhere, same_table}
 use Rattle.warp_tag.proofs.Payloads.{not_lesser_self, same_payload, greater_still}
 use Rattle.warp_record.specs.declared.record.Record.{Record}
-use Rattle.warp_record.specs.declared.record.Record.TheVariants.{Event, Withdraw, Announce}
+use Rattle.warp_record.specs.declared.record.Record.TheVariants.{Event, Withdraw, Announce, Joint}
 use Rattle.warp_table.specs.Names.{IsOf, HasEvent, HasWithdrawal, TellsPayload, Tells}
 use Rattle.warp_table.specs.Records.{IsIn, Records, same_record, set_of, union}
 use Rattle.warp_table.specs.LogNames.{with_record, table_of}
@@ -174,6 +174,7 @@ table_with : (table : List Entry) (said : Record) → IsTable table → IsTable 
 table_with table (Event c s input value) h = table_changed (with_event input value) (with_event_names input value) c s table h
 table_with table (Withdraw c s) h = table_changed with_withdrawal with_withdrawal_names c s table h
 table_with table (Announce c s events withdrawn) h = h
+table_with table (Joint s events withdrawn) h = h
 
 -- what changes what is known of the record's own name, and tells it, tells what is known of each name
 changed_told : (S : Records) (said : Record) (f : Entry → Entry) → KeepsNames f → (c : ℕ) (s : Moment) → ((o : ℕ) (t : Moment) → IsOf o t said → (c ≡ o) × (s ≡ t))
@@ -201,6 +202,8 @@ told_with S o t table (Withdraw c s) h told =
     changed_told S (Withdraw c s) with_withdrawal with_withdrawal_names c s (λ o t of. of) (withdrawal_told S c s) o t table h told
 told_with S o t table (Announce c s events withdrawn) h told =
     other_told S (Announce c s events withdrawn) o t (λ of. of) (known o t table) told
+told_with S o t table (Joint s events withdrawn) h told =
+    other_told S (Joint s events withdrawn) o t (λ of. of) (known o t table) told
 
 table_from : (table : List Entry) (rest : List Record) → IsTable table → IsTable (fold with_record table rest)
 table_from table [] h = h

@@ -3,6 +3,8 @@ pub mod Records
 pub mod Names
 pub mod LogNames
 pub mod Check
+pub mod Joint
 pub mod Announced
+pub mod Horizons
 pub mod NameCounts
 pub mod inner

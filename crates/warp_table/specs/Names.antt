@@ -1,12 +1,13 @@
 -- What a set of records says of names: what it tells of one name, and which events are live. No order of arrival plays a
 -- part in it.
 use Rattle.std.specs.Prelude.{◌≡◌, ◌≢◌, ℕ, ℤ, Bool, false, ◌&&◌, ◌||◌, nat_lt, IsTrue, ◌↔◌, Option, Some, None, List, Contains, AllPairs}
+pub use Rattle.warp_record.specs.Order.{origin_or_first}
 pub use Rattle.warp_record.specs.Record.{origin_of}
 use Rattle.warp_tag.specs.Moment.{Moment, is_before, is_same}
 use Rattle.warp_tag.specs.Table.{Event as LiveEvent, is_lesser}
 use Rattle.warp_tag.specs.declared.entry.Entry.{Entry}
 use Rattle.warp_record.specs.declared.record.Record.{Record}
-use Rattle.warp_record.specs.declared.record.Record.TheVariants.{Event, Withdraw, Announce}
+use Rattle.warp_record.specs.declared.record.Record.TheVariants.{Event, Withdraw, Announce, Joint}
 use Rattle.warp_table.specs.Records.{Records, IsIn}
 
 -- the record is of this name: an event or a withdrawal of it
@@ -14,6 +15,7 @@ abbrev pub IsOf : ℕ → Moment → Record → Type 0
 IsOf origin tag (Event its_origin its_tag input value) = (its_origin ≡ origin) × (its_tag ≡ tag)
 IsOf origin tag (Withdraw its_origin its_tag) = (its_origin ≡ origin) × (its_tag ≡ tag)
 IsOf origin tag (Announce its_origin its_tag events withdrawn) = ⊥
+IsOf origin tag (Joint its_tag events withdrawn) = ⊥
 
 -- in the set is an event of this name with this payload
 abbrev pub HasEvent : Records → ℕ → Moment → ℕ × ℤ → Type 0

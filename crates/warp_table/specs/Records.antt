@@ -4,7 +4,7 @@ use Rattle.std.specs.Ordering.{int_eq}
 use Rattle.std.specs.List.{list_any}
 use Rattle.warp_tag.specs.Moment.{is_same}
 use Rattle.warp_record.specs.declared.record.Record.{Record}
-use Rattle.warp_record.specs.declared.record.Record.TheVariants.{Event, Withdraw, Announce}
+use Rattle.warp_record.specs.declared.record.Record.TheVariants.{Event, Withdraw, Announce, Joint}
 use Rattle.warp_table.specs.Log.{EachOnce}
 
 -- the records are one
@@ -14,6 +14,8 @@ same_record (Event o t input value) (Event p s other_input other_value) =
 same_record (Withdraw o t) (Withdraw p s) = o == p && is_same t s
 same_record (Announce o t events withdrawn) (Announce p s other_events other_withdrawn) =
     o == p && is_same t s && events == other_events && withdrawn == other_withdrawn
+same_record (Joint t events withdrawn) (Joint s other_events other_withdrawn) =
+    is_same t s && events == other_events && withdrawn == other_withdrawn
 same_record _ _ = false
 
 -- a set of records: for each record whether it is among them

@@ -4,4 +4,5 @@ pub mod Heard
 pub mod Blocks
 pub mod Tally
 pub mod NamesByOrigin
+pub mod Joint
 pub mod News

@@ -4,7 +4,7 @@
 //! A name that is before all tags of a block is counted once for the whole block, as long as no announcement of it can
 //! be met or exceeded by it: a block knows how many more names it may take so. So a late name costs a walk over the
 //! blocks behind it and over one block, and one that is beyond all announcements costs nothing.
-ghost use Rattle.std.specs.Prelude.{◌≡◌, ◌+◌, ◌<◌, ◌≤◌, ◌^◌, [], ◌∷◌, ◌++◌, All, IfOk, OnOk, OnErr, drop, false, fold};
+ghost use Rattle.std.specs.Prelude.{◌≡◌, ◌+◌, ◌<◌, ◌≤◌, ◌^◌, [], ◌∷◌, ◌++◌, All, IfOk, IsTrue, OnOk, OnErr, drop, false, fold};
 ghost use Rattle.std.specs.Prelude.{get_or, length, map, take, true};
 ghost use Rattle.std.specs.List.{insert, list_any};
 ghost use Rattle.warp_tag.specs.Moment.{is_before};
@@ -394,6 +394,14 @@ impl Announcements {
         Announcements {
             blocks: Vec::new(alloc),
         }
+    }
+
+    /// Whether there is none.
+    #[inline(always)]
+    pub(crate) fn is_empty(&self) -> bool
+        ensures { IsTrue result → self.now ≡ [] }
+    {
+        self.blocks.is_empty()
     }
 
     /// Whether one of them is beyond the tag.

@@ -2,9 +2,9 @@
 //!
 //! Each announcement has how many names are before its tag. A new name is counted in the announcements beyond it
 //! (`announced.rt`), so that what comes in order of tag costs no pass over what came before.
-ghost use Rattle.std.specs.Prelude.{◌≡◌, ◌↔◌, ◌⊎◌, Contains, IsTrue, OnOk, OnErr, false, length};
+ghost use Rattle.std.specs.Prelude.{◌≡◌, ◌↔◌, ◌⊎◌, Contains, IfOk, IsTrue, OnOk, OnErr, false, length};
 ghost use Rattle.warp_table.specs.inner.Heard.{Announced, IsExceeded, IsHeardTo, earlier_of, nothing_heard};
-ghost use Rattle.warp_table.specs.inner.Heard.{with_tag};
+ghost use Rattle.warp_table.specs.inner.Heard.{count_before as tags_before, with_tag};
 ghost use Rattle.warp_table.specs.inner.Tally.{tags_of, with_noted};
 
 use crate::announced::Announcements;
@@ -15,7 +15,7 @@ use std::marker::Model;
 use warp_tag::Tag;
 
 /// The earlier one of a tag, if there is one, and another.
-fn earlier(one: Option<Tag>, other: Tag) -> Tag
+pub(crate) fn earlier(one: Option<Tag>, other: Tag) -> Tag
     ensures { result ≡ earlier_of one other }
 {
     match one {
@@ -155,6 +155,28 @@ impl Announcer {
         let has_doubled = tally.has_doubled(self.doubled);
         self.verdict = self.verdict.with(&tally).broken_where(has_doubled);
         Ok(())
+    }
+
+    /// How many of its names are before the tag, of those that have an event or a withdrawal. They stay.
+    pub(crate) fn count_before(
+        &mut self,
+        kind: EventOrWithdrawal,
+        tag: Tag,
+    ) -> Result<usize, AllocError>
+        ensures same { self.new ≡ self.old }
+        ensures count { IfOk result (λ count. count ≡ tags_before tag (tags_of kind self.old)) }
+    {
+        match kind {
+            EventOrWithdrawal::Event => self.events.count_before(tag),
+            EventOrWithdrawal::Withdrawal => self.withdrawn.count_before(tag),
+        }
+    }
+
+    /// The least tag of a name of two payloads; `None` where there is none.
+    pub(crate) fn doubled(&self) -> Option<Tag>
+        ensures { result ≡ self.now.doubled }
+    {
+        self.doubled
     }
 
     /// How many of its names have an event.

@@ -5,23 +5,27 @@
 //! place. An event behind all of its origin's has a way of its own (`note_last`), which makes all its tests first and
 //! then only writes; all others go by `note`. Where memory is wanting, nothing has changed.
 ghost use Rattle.std.specs.Prelude.{◌≡◌, ◌↔◌, ◌⊎◌, ℕ, ℤ, ◌+◌, ◌<◌, ◌≤◌, [], ◌∷◌, ◌++◌, None, Some, false};
-ghost use Rattle.std.specs.Prelude.{length, vec_len, Contains, IsTrue, IfOk, OnOk};
+ghost use Rattle.std.specs.Prelude.{All, length, nat_lt, vec_len, Contains, IsTrue, IfOk, OnOk, ◌^◌};
 ghost use Rattle.std.specs.Prelude.{IfNone, IfSome, OnErr};
 ghost use Rattle.std.specs.Map.{lookup};
 ghost use Rattle.warp_tag.specs.Limits.{most_origins, most_records, widest};
 ghost use Rattle.warp_record.specs.declared.record.Record.{Record};
 ghost use Rattle.warp_table.specs.Log.{IsAt};
-ghost use Rattle.warp_table.specs.Names.{origin_of};
 ghost use Rattle.warp_record.specs.Order.{kind_of};
+ghost use Rattle.warp_table.specs.Names.{origin_of, origin_or_first};
 ghost use Rattle.warp_table.specs.Records.{same_record, set_of};
 ghost use Rattle.warp_table.specs.inner.Heard.{Announced, AreHeard, IsHeard, heard_at, with_tag};
 ghost use Rattle.warp_table.specs.inner.Kept.{HoldsEvent, IsAdded, Keeps, NotesEvent};
 ghost use Rattle.warp_table.specs.inner.Kept.{event_place, is_named, known_of, other_place};
 ghost use Rattle.warp_table.specs.inner.Kept.{put_known, put_other, with_event_at};
 ghost use Rattle.warp_table.specs.inner.Kept.{with_withdrawal_at, withdrawal_place};
+ghost use Rattle.warp_table.specs.inner.Joint.{KeepsJoint, joint_with};
 ghost use Rattle.warp_table.specs.inner.Others.{places};
+ghost use Rattle.warp_table.specs.inner.Tally.{AreInOrder, IsJudged, before_of};
+ghost use Rattle.warp_table.specs.declared.tally.EventOrWithdrawal.{EventOrWithdrawal};
 
 use crate::announcer::Announcer;
+use crate::joint::{JointAnnouncer, least_doubled, tally_of};
 use crate::names::{Name, Names};
 use crate::others::Others;
 use crate::rows::Known;
@@ -345,10 +349,11 @@ fn note_own(
 ) -> Result<Added, OutOfMemory>
     requires room { length records.now < most_records widest }
     requires keeps { Keeps records.now names.old (places others.old) }
-    requires heard { IsHeard (set_of records.now) (origin_of «record».now) announcer.old }
+    requires own { kind_of «record».now < 3 }
+    requires heard { IsHeard (set_of records.now) (origin_or_first «record».now) announcer.old }
     ensures new { IfOk result
         (λ added. IsTrue added.is_new → IsAdded records.now «record».now added.place names.new (places others.new) ×
-        IsHeard (set_of (records.now ++ «record».now ∷ [])) (origin_of «record».now) announcer.new) }
+        IsHeard (set_of (records.now ++ «record».now ∷ [])) (origin_or_first «record».now) announcer.new) }
     ensures known { IfOk result (λ added. added.is_new ≡ false → IsAt records.now added.place «record».now ×
         (names.new ≡ names.old) × (places others.new ≡ places others.old) × (announcer.new ≡ announcer.old)) }
     ensures err { OnErr result
@@ -378,19 +383,46 @@ fn note_own(
             let (events, withdrawn) = (events.get(), withdrawn.get());
             add_announcement(others, announcer, record, tag, events, withdrawn, next)
         }
+        Record::Joint { .. } => unreachable!(),
     }
 }
 
-/// Adds a record, behind those that there are where it is new, to what is kept and heard. What is kept stays on an
-/// `Err`, and what is heard.
-pub(crate) fn note(
+/// Counts a new record's name in the joint announcements beyond it, where it is the first record of the name of its kind, or
+/// else notes that the name has two payloads.
+fn count_jointly(joint: &mut JointAnnouncer, record: &Record, is_first: bool)
+    requires in_order { AreInOrder joint.old.announced }
+    requires events { All (λ t. before_of EventOrWithdrawal.Event t + 1 < 2 ^ 64) joint.old.announced }
+    requires withdrawn { All (λ t. before_of EventOrWithdrawal.Withdrawal t + 1 < 2 ^ 64) joint.old.announced }
+    requires judged { All (IsJudged joint.old.verdict) joint.old.announced }
+    ensures { joint.new ≡ joint_with «record».now is_first joint.old }
+{
+    match *record {
+        Record::Event { tag, .. } => {
+            if is_first {
+                joint.count_name(tag, EventOrWithdrawal::Event);
+            } else {
+                joint.note_two_payloads(tag);
+            }
+        }
+        Record::Withdraw { tag, .. } => joint.count_name(tag, EventOrWithdrawal::Withdrawal),
+        Record::Announce { .. } => {}
+        Record::Joint { .. } => {}
+    }
+}
+
+/// Adds a record of this origin, behind those that there are where it is new, to what is kept and heard. What is kept
+/// stays on an `Err`, and what is heard.
+fn note_of(
     records: &[Record],
     names: &mut Names,
     others: &mut Others,
     announcers: &mut Vec<Announcer>,
     record: &Record,
+    origin: u32,
 ) -> Result<Added, OutOfMemory>
-    requires origin { origin_of «record».now < most_origins widest }
+    requires of { origin ≡ origin_or_first «record».now }
+    requires own { kind_of «record».now < 3 }
+    requires origin { origin < most_origins widest }
     requires room { length records.now < most_records widest }
     requires keeps { Keeps records.now names.old (places others.old) }
     requires heard { AreHeard records.now announcers.old.items }
@@ -403,16 +435,178 @@ pub(crate) fn note(
     ensures err { OnErr result ((names.new ≡ names.old) × (places others.new ≡ places others.old) ×
         AreHeard records.now announcers.new.items) }
 {
-    let origin = record.origin();
     keep_up_to(announcers, origin)?;
     let announcer = &mut announcers[origin as usize];
     note_own(records, names, others, announcer, record)
 }
 
+/// How many names of the origin that have an event are heard of.
+fn events_of(announcers: &[Announcer], origin: u32) -> usize
+    ensures { result ≡ length (heard_at announcers.now origin).events }
+{
+    match announcers.get(origin as usize) {
+        Some(announcer) => announcer.event_count(),
+        None => 0,
+    }
+}
+
+/// Counts the name of a new record of an origin in the joint announcements, where there are some.
+fn count_where_some(joint: &mut JointAnnouncer, record: &Record, is_first: bool)
+    requires in_order { AreInOrder joint.old.announced }
+    requires events { All (λ t. before_of EventOrWithdrawal.Event t + 1 < 2 ^ 64) joint.old.announced }
+    requires withdrawn { All (λ t. before_of EventOrWithdrawal.Withdrawal t + 1 < 2 ^ 64) joint.old.announced }
+    requires judged { All (IsJudged joint.old.verdict) joint.old.announced }
+    ensures { joint.new ≡ joint_with «record».now is_first joint.old }
+{
+    if joint.is_empty() {
+        return;
+    }
+    count_jointly(joint, record, is_first);
+}
+
+/// Whether the record came in.
+fn is_new(added: &Added) -> bool
+    ensures { result ≡ added.now.is_new }
+{
+    added.is_new
+}
+
+/// Whether the one number is less than the other.
+fn is_less(one: usize, other: usize) -> bool
+    ensures { result ≡ nat_lt one other }
+{
+    one < other
+}
+
+/// `note_of`, and counts the name of a new record in the joint announcements.
+fn note_counted(
+    records: &[Record],
+    names: &mut Names,
+    others: &mut Others,
+    announcers: &mut Vec<Announcer>,
+    joint: &mut JointAnnouncer,
+    record: &Record,
+    origin: u32,
+) -> Result<Added, OutOfMemory>
+    requires of { origin ≡ origin_or_first «record».now }
+    requires own { kind_of «record».now < 3 }
+    requires origin { origin < most_origins widest }
+    requires room { length records.now < most_records widest }
+    requires keeps { Keeps records.now names.old (places others.old) }
+    requires heard { AreHeard records.now announcers.old.items }
+    requires joint { KeepsJoint records.now announcers.old.items joint.old }
+    ensures new { IfOk result
+        (λ added. IsTrue added.is_new → IsAdded records.now «record».now added.place names.new (places others.new) ×
+        AreHeard (records.now ++ «record».now ∷ []) announcers.new.items ×
+        KeepsJoint (records.now ++ «record».now ∷ []) announcers.new.items joint.new) }
+    ensures known { IfOk result (λ added. added.is_new ≡ false → IsAt records.now added.place «record».now ×
+        (names.new ≡ names.old) × (places others.new ≡ places others.old) ×
+        AreHeard records.now announcers.new.items × KeepsJoint records.now announcers.new.items joint.new) }
+    ensures err { OnErr result ((names.new ≡ names.old) × (places others.new ≡ places others.old) ×
+        AreHeard records.now announcers.new.items × KeepsJoint records.now announcers.new.items joint.new) }
+{
+    let before = events_of(announcers, origin);
+    let added = note_of(records, names, others, announcers, record, origin)?;
+    if !is_new(&added) {
+        return Ok(added);
+    }
+    let after = events_of(announcers, origin);
+    count_where_some(joint, record, is_less(before, after));
+    Ok(added)
+}
+
+/// What comes of a record that stands at this place, and else goes to the next one.
+fn added_at(found: Option<u32>, next: u32) -> Added
+    ensures known { IfSome found (λ at. (result.place ≡ at) × (result.is_new ≡ false)) }
+    ensures new { IfNone found ((result.place ≡ next) × IsTrue result.is_new) }
+{
+    match found {
+        Some(place) => Added {
+            place,
+            is_new: false,
+        },
+        None => Added {
+            place: next,
+            is_new: true,
+        },
+    }
+}
+
+/// Adds a joint announcement, behind the records that there are where it is new, to the places of the others, and to what
+/// is kept of joint ones. What is kept stays on an `Err`, and what is heard.
+fn note_joint(
+    records: &[Record],
+    others: &mut Others,
+    announcers: &mut Vec<Announcer>,
+    joint: &mut JointAnnouncer,
+    record: &Record,
+) -> Result<Added, OutOfMemory>
+    requires of { kind_of «record».now ≡ 3 }
+    requires room { length records.now < most_records widest }
+    requires heard { AreHeard records.now announcers.old.items }
+    requires joint { KeepsJoint records.now announcers.old.items joint.old }
+    ensures same { announcers.new.items ≡ announcers.old.items }
+    ensures new { IfOk result
+        (λ added. IsTrue added.is_new → (other_place (places others.old) «record».now ≡ None) ×
+        (added.place ≡ length records.now + 1) ×
+        (places others.new ≡ put_other (places others.old) «record».now (length records.now + 1)) ×
+        KeepsJoint (records.now ++ «record».now ∷ []) announcers.old.items joint.new) }
+    ensures known { IfOk result (λ added. added.is_new ≡ false →
+        (other_place (places others.old) «record».now ≡ Some added.place) ×
+        (places others.new ≡ places others.old) × (joint.new ≡ joint.old)) }
+    ensures err { OnErr result ((places others.new ≡ places others.old) × (joint.new ≡ joint.old)) }
+{
+    let Record::Joint {
+        tag,
+        events,
+        withdrawn,
+    } = *record
+    else {
+        unreachable!()
+    };
+    let (events, withdrawn) = (events.get(), withdrawn.get());
+    let next = records.len() as u32 + 1;
+    let tally = tally_of(announcers, tag, events, withdrawn)?;
+    let doubled = least_doubled(announcers);
+    let found = others.enter_joint(joint, record, tally, doubled, next)?;
+    Ok(added_at(found, next))
+}
+
+/// Adds a record, behind those that there are where it is new, to what is kept and heard. What is kept stays on an
+/// `Err`, and what is heard.
+pub(crate) fn note(
+    records: &[Record],
+    names: &mut Names,
+    others: &mut Others,
+    announcers: &mut Vec<Announcer>,
+    joint: &mut JointAnnouncer,
+    record: &Record,
+) -> Result<Added, OutOfMemory>
+    requires origin { IfSome (origin_of «record».now) (λ origin. origin < most_origins widest) }
+    requires room { length records.now < most_records widest }
+    requires keeps { Keeps records.now names.old (places others.old) }
+    requires heard { AreHeard records.now announcers.old.items }
+    requires joint { KeepsJoint records.now announcers.old.items joint.old }
+    ensures new { IfOk result
+        (λ added. IsTrue added.is_new → IsAdded records.now «record».now added.place names.new (places others.new) ×
+        AreHeard (records.now ++ «record».now ∷ []) announcers.new.items ×
+        KeepsJoint (records.now ++ «record».now ∷ []) announcers.new.items joint.new) }
+    ensures known { IfOk result (λ added. added.is_new ≡ false → IsAt records.now added.place «record».now ×
+        (names.new ≡ names.old) × (places others.new ≡ places others.old) ×
+        AreHeard records.now announcers.new.items × KeepsJoint records.now announcers.new.items joint.new) }
+    ensures err { OnErr result ((names.new ≡ names.old) × (places others.new ≡ places others.old) ×
+        AreHeard records.now announcers.new.items × KeepsJoint records.now announcers.new.items joint.new) }
+{
+    match record.origin() {
+        Some(origin) => { note_counted(records, names, others, announcers, joint, record, origin) }
+        None => note_joint(records, others, announcers, joint, record),
+    }
+}
+
 /// Adds an event of a name that comes behind all of its origin's and that no announcement is beyond, where there is
 /// room for it at once, and tells it to its origin: whether it did. What is heard stays where it did not.
 #[inline(always)]
-pub(crate) fn note_last(
+fn note_last(
     records: &[Record],
     names: &mut Names,
     others: &Others,
@@ -425,6 +619,7 @@ pub(crate) fn note_last(
     ensures came { IsTrue result →
         IsAdded records.now «record».now (length records.now + 1) names.new (places others.now) ×
         AreHeard (records.now ++ «record».now ∷ []) announcers.new.items }
+    ensures event { IsTrue result → kind_of «record».now ≡ 0 }
     ensures other { result ≡ false → (names.new ≡ names.old) × AreHeard records.now announcers.new.items }
 {
     let Record::Event { origin, tag, .. } = *record else {
@@ -437,4 +632,31 @@ pub(crate) fn note_last(
     let known = Known::nothing().with_event(noted.event);
     let announcer = &mut announcers[origin as usize];
     names.insert_last(Name { origin, tag }, known, announcer)
+}
+
+/// `note_last` where there is no joint announcement; with one nothing is done.
+#[inline(always)]
+pub(crate) fn note_last_alone(
+    records: &[Record],
+    names: &mut Names,
+    others: &Others,
+    announcers: &mut Vec<Announcer>,
+    joint: &JointAnnouncer,
+    record: &Record,
+) -> bool
+    requires room { length records.now < most_records widest }
+    requires keeps { Keeps records.now names.old (places others.now) }
+    requires heard { AreHeard records.now announcers.old.items }
+    requires joint { KeepsJoint records.now announcers.old.items joint.now }
+    ensures came { IsTrue result →
+        IsAdded records.now «record».now (length records.now + 1) names.new (places others.now) ×
+        AreHeard (records.now ++ «record».now ∷ []) announcers.new.items ×
+        KeepsJoint (records.now ++ «record».now ∷ []) announcers.new.items joint.now }
+    ensures other { result ≡ false → (names.new ≡ names.old) × AreHeard records.now announcers.new.items ×
+        KeepsJoint records.now announcers.new.items joint.now }
+{
+    if !joint.is_empty() {
+        return false;
+    }
+    note_last(records, names, others, announcers, record)
 }

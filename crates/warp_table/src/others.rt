@@ -1,4 +1,5 @@
-//! Where the records stand that no name keeps: announcements, and events of a name that has one with a greater payload.
+//! Where the records stand that no name keeps: announcements, joint ones too, and events of a name that has one with a
+//! greater payload.
 //!
 //! Announcements come nearly in the order of records, or newest first, so one that is behind all others, or before them,
 //! goes to an end of a list, and costs a comparison. All else stands in a map in that order, so that no choice of
@@ -10,9 +11,13 @@ ghost use Rattle.std.specs.Map.{lookup};
 ghost use Rattle.std.specs.declared.cmp.Ordering.TheVariants.{Less};
 ghost use Rattle.warp_record.specs.Order.{kind_of, record_cmp};
 ghost use Rattle.warp_table.specs.inner.Heard.{Announced};
+ghost use Rattle.warp_table.specs.inner.Joint.{joint_noted};
 ghost use Rattle.warp_table.specs.inner.Kept.{place_if};
+ghost use Rattle.warp_table.specs.inner.Tally.{AreInOrder};
 
 use crate::announcer::Announcer;
+use crate::joint::JointAnnouncer;
+use crate::tally::Tally;
 use std::alloc::Global;
 use std::collections::btree_map::Entry;
 use std::collections::{BTreeMap, VecDeque};
@@ -137,6 +142,35 @@ fn enter_told(
     }
 }
 
+/// The place of a joint announcement in the map, where it is there; or else notes it at this one, and tells it to those
+/// that are kept. An `Err` changes nothing.
+fn enter_joint(
+    map: &mut BTreeMap<Record, u32>,
+    joint: &mut JointAnnouncer,
+    said: &Record,
+    tally: Tally,
+    doubled: Option<Tag>,
+    place: u32,
+) -> Result<Option<u32>, OutOfMemory>
+    requires { AreInOrder joint.old.announced }
+    ensures known { IfOk result (λ found. IfSome found (λ at. (map.new.entries ≡ map.old.entries) ×
+        (joint.new ≡ joint.old) × (lookup (is_at (record_cmp said.now)) map.old.entries ≡ Some at))) }
+    ensures new { IfOk result (λ found. IfNone found
+        ((lookup (is_at (record_cmp said.now)) map.old.entries ≡ None) ×
+        (map.new.entries ≡ insert_entry record_cmp map.old.entries said.now place) ×
+        (joint.new ≡ joint_noted tally doubled joint.old))) }
+    ensures err { OnErr result ((map.new.entries ≡ map.old.entries) × (joint.new ≡ joint.old)) }
+{
+    match map.entry(*said)? {
+        Entry::Occupied(kept) => Ok(Some(*kept.get())),
+        Entry::Vacant(gap) => {
+            joint.note(tally, doubled)?;
+            gap.insert(place);
+            Ok(None)
+        }
+    }
+}
+
 /// Records that no name keeps, each with its place. Contracts see where each record stands (`places`).
 #[derive(Drop)]
 pub(crate) struct Others {
@@ -212,6 +246,30 @@ impl Others {
         ensures map { result ≡ true → lookup (is_at (record_cmp «record».now)) self.now.map.entries ≡ None }
     {
         is_before_list(&self.listed, record) && is_before_map(&self.map, record)
+    }
+
+    /// The place of a joint announcement, where it has one; or else notes it at this one, and tells it to those that are
+    /// kept. An `Err` changes nothing.
+    #[inline(never)]
+    pub(crate) fn enter_joint(
+        &mut self,
+        joint: &mut JointAnnouncer,
+        said: &Record,
+        tally: Tally,
+        doubled: Option<Tag>,
+        place: u32,
+    ) -> Result<Option<u32>, OutOfMemory>
+        requires kind { kind_of said.now ≡ 3 }
+        requires in_order { AreInOrder joint.old.announced }
+        ensures known { IfOk result (λ found. IfSome found (λ at. (places self.new ≡ places self.old) ×
+            (joint.new ≡ joint.old) × (other_place (places self.old) said.now ≡ Some at))) }
+        ensures new { IfOk result (λ found. IfNone found ((other_place (places self.old) said.now ≡ None) ×
+            (places self.new ≡ put_other (places self.old) said.now place) ×
+            (joint.new ≡ joint_noted tally doubled joint.old))) }
+        ensures err { OnErr result ((places self.new ≡ places self.old) × (joint.new ≡ joint.old)) }
+    {
+        let found = enter_joint(&mut self.map, joint, said, tally, doubled, place)?;
+        Ok(found)
     }
 
     /// The place of an announcement, where it has one; or else notes it at this one, and tells it to its origin. An

@@ -6,7 +6,7 @@
 //! with a lesser payload, are found in a map, which is ordered, so that no choice of keys makes it slow. What an origin
 //! announced is kept by its `Announcer`, so that in order of tags no record costs a pass over all announcements or
 //! names. A horizon costs a look at each origin of the program.
-ghost use Rattle.std.specs.Prelude.{◌≡◌, ◌↔◌, ℕ, ℤ, ◌+◌, ◌<◌, ◌≤◌, List, [], ◌∷◌, ◌++◌, None, Some, true, false};
+ghost use Rattle.std.specs.Prelude.{◌≡◌, ◌↔◌, ℕ, ℤ, ◌+◌, ◌<◌, ◌≤◌, List, [], ◌∷◌, ◌++◌, ◌||◌, nat_lt, None, Some, true, false};
 ghost use Rattle.std.specs.Prelude.{length, slice_get, Contains, IsTrue, IfSome, IfNone, IfOk};
 ghost use Rattle.std.specs.Prelude.{OnErr, MatchResult};
 ghost use Rattle.std.specs.Option.{option_copied};
@@ -14,14 +14,19 @@ ghost use Rattle.warp_tag.specs.Limits.{most_origins, most_records, widest};
 ghost use Rattle.warp_step.specs.Events.{is_declared};
 ghost use Rattle.warp_record.specs.declared.record.Record.{Record};
 ghost use Rattle.warp_record.specs.declared.reply.Refusal.{Refusal};
+ghost use Rattle.warp_tag.specs.Moment.{is_before};
+ghost use Rattle.warp_step.specs.Program.{top_of};
 ghost use Rattle.warp_table.specs.Announced.{IsBroken, IsHorizon, ReachesTo};
-ghost use Rattle.warp_table.specs.Check.{refusal_of};
+ghost use Rattle.warp_table.specs.Check.{end_of, refusal_of};
+ghost use Rattle.warp_table.specs.Horizons.{IsHorizonAlone, ReachesAlone, later};
+ghost use Rattle.warp_table.specs.Joint.{IsBrokenJointly};
 ghost use Rattle.warp_table.specs.Log.{IsAt};
 ghost use Rattle.warp_table.specs.NameCounts.{AreCounts, AreSoMany, HasSomeEvent, IsLastName};
 ghost use Rattle.warp_table.specs.Names.{HasWithdrawal, Tells, origin_of};
 ghost use Rattle.warp_table.specs.Records.{set_of};
 ghost use Rattle.warp_table.specs.LogNames.{names_of};
 ghost use Rattle.warp_table.specs.inner.Heard.{AreHeard};
+ghost use Rattle.warp_table.specs.inner.Joint.{KeepsJoint};
 ghost use Rattle.warp_table.specs.inner.Kept.{Keeps, counts_less, entry_of};
 ghost use Rattle.warp_table.specs.inner.Kept.{event_place, known_of, parted_of, payload_at};
 ghost use Rattle.warp_table.specs.inner.Kept.{place_in};
@@ -29,8 +34,9 @@ ghost use Rattle.warp_table.specs.inner.Kept.{record_at, stands};
 ghost use Rattle.warp_table.specs.inner.Others.{places};
 
 use crate::announcer::Announcer;
+use crate::joint::JointAnnouncer;
 use crate::names::{Name, Names};
-use crate::noting::{note, note_last};
+use crate::noting::{note, note_last_alone};
 use crate::others::Others;
 use crate::rows::Known;
 use std::alloc::Global;
@@ -70,7 +76,7 @@ pub(crate) struct Parted {
 /// Records in the order of taking, each once, at most as many as a log of the widest form has. It is seen as their
 /// list. Beside them it keeps what is known of each name, the places of the records that no name keeps, and for each
 /// origin up to the greatest of a record an `Announcer`: which of its names came, what it announced, and how far that
-/// is reached.
+/// is reached. Joint announcements have one of their own.
 #[derive(Drop)]
 pub struct Table {
     records: Vec<Record>,
@@ -78,6 +84,7 @@ pub struct Table {
     /// Of announcements, and of the events of a name that has one with a greater payload.
     others: Others,
     announcers: Vec<Announcer>,
+    joint: JointAnnouncer,
 }
 
 impl Model for Table {
@@ -85,6 +92,7 @@ impl Model for Table {
     ghost use Rattle.warp_record.specs.declared.record.Record.{Record};
     ghost use Rattle.warp_tag.specs.Limits.{most_records, widest};
     ghost use Rattle.warp_table.specs.inner.Heard.{AreHeard};
+    ghost use Rattle.warp_table.specs.inner.Joint.{KeepsJoint};
     ghost use Rattle.warp_table.specs.inner.Kept.{Keeps};
     ghost use Rattle.warp_table.specs.inner.Others.{places};
 
@@ -93,7 +101,7 @@ impl Model for Table {
     ghost view = { λ t. t.records.items };
 
     ghost invariant = { λ t. (length t.records.items ≤ most_records widest) × Keeps t.records.items t.names (places t.others)
-        × AreHeard t.records.items t.announcers.items };
+        × AreHeard t.records.items t.announcers.items × KeepsJoint t.records.items t.announcers.items t.joint };
 }
 
 impl Table {
@@ -101,7 +109,7 @@ impl Table {
 
     /// Whether the program takes such a record, and else the first reason why not: no such origin, past its stop or the
     /// last microstep of its times, no such input, an input of another origin. An announcement's tag may be the first
-    /// one behind the stop.
+    /// one behind the stop. Of a program whose form has no joint announcements one is of no origin of it.
     #[inline(always)]
     pub fn check(program: &Program, record: &Record) -> Result<(), Refusal>
         ensures { MatchResult result (λ _. refusal_of program.now «record».now ≡ None)
@@ -116,6 +124,7 @@ impl Table {
             } => check_event(program, origin, tag, input),
             Record::Withdraw { origin, tag } => check_name(program, origin, tag),
             Record::Announce { origin, tag, .. } => check_end(program, origin, tag),
+            Record::Joint { tag, .. } => check_joint(program, tag),
         }
     }
 
@@ -128,6 +137,7 @@ impl Table {
             names: Names::new(alloc),
             others: Others::new(alloc),
             announcers: Vec::new(alloc),
+            joint: JointAnnouncer::new(alloc),
         }
     }
 
@@ -158,11 +168,11 @@ impl Table {
 
     /// Adds a record where it is not there yet, notes what it says of its name and to its origin, and tells its place
     /// and whether it is new. A record that was there stays in its place. An `Err` changes nothing. The table has
-    /// fewer than a log of the widest form can, and the origin is one of the widest form.
+    /// fewer than a log of the widest form can, and the origin, if the record is one origin's, is one of the widest form.
     #[inline(always)]
     pub fn add(&mut self, record: &Record) -> Result<Added, OutOfMemory>
         requires room { length self.old < most_records widest }
-        requires origin { origin_of «record».now < most_origins widest }
+        requires origin { IfSome (origin_of «record».now) (λ origin. origin < most_origins widest) }
         ensures new { IfOk result (λ added. IsTrue added.is_new →
             (¬ Contains self.old «record».now) × (added.place ≡ length self.old + 1) ×
             (self.new ≡ self.old ++ «record».now ∷ [])) }
@@ -171,11 +181,12 @@ impl Table {
         ensures err { OnErr result (self.new ≡ self.old) }
     {
         if self.records.len() < self.records.capacity() {
-            let is_last = note_last(
+            let is_last = note_last_alone(
                 &self.records,
                 &mut self.names,
                 &self.others,
                 &mut self.announcers,
+                &self.joint,
                 record,
             );
             if is_last {
@@ -193,7 +204,7 @@ impl Table {
     #[inline(never)]
     fn add_anywhere(&mut self, record: &Record) -> Result<Added, OutOfMemory>
         requires room { length self.old < most_records widest }
-        requires origin { origin_of «record».now < most_origins widest }
+        requires origin { IfSome (origin_of «record».now) (λ origin. origin < most_origins widest) }
         ensures new { IfOk result (λ added. IsTrue added.is_new →
             (¬ Contains self.old «record».now) × (added.place ≡ length self.old + 1) ×
             (self.new ≡ self.old ++ «record».now ∷ [])) }
@@ -207,6 +218,7 @@ impl Table {
             &mut self.names,
             &mut self.others,
             &mut self.announcers,
+            &mut self.joint,
             record,
         )?;
         if added.is_new {
@@ -233,17 +245,24 @@ impl Table {
         Some(entry_of(&self.records, &name, &known))
     }
 
-    /// Up to which tag the announcements of all origins of the program are reached: the least, over its origins, of
-    /// the greatest tag of a reached announcement, the beginning for an origin where none is. Outputs before it are
-    /// released.
+    /// Up to which tag announcements are reached: the later one of the least, over the program's origins, of the greatest
+    /// tag of a reached announcement of its own, the beginning for an origin where none is, and of the greatest tag of a
+    /// joint one that is reached. Outputs before it are released.
     pub fn horizon(&self, program: &Program) -> Tag
         ensures { IsHorizon program.now (set_of self.now) result }
     {
+        later(self.horizon_alone(program), self.joint.reached())
+    }
+
+    /// The least tag up to which one of the program's origins has its own announcements reached.
+    fn horizon_alone(&self, program: &Program) -> Tag
+        ensures { IsHorizonAlone program.now (set_of self.now) result }
+    {
         // Each program is valid, and so has an origin.
         program.valid();
-        let mut end = self.reached(0);
+        let mut end = self.reached_alone(0);
         for origin in 1..program.origins() {
-            let own = self.reached(origin);
+            let own = self.reached_alone(origin);
             if own.is_before(end) {
                 end = own;
             }
@@ -251,14 +270,22 @@ impl Table {
         end
     }
 
-    /// Up to which tag the origin's announcements are reached, the beginning where none is.
-    pub fn reached(&self, origin: u32) -> Tag
-        ensures { ReachesTo (set_of self.now) origin result }
+    /// Up to which tag the origin's own announcements are reached, the beginning where none is.
+    fn reached_alone(&self, origin: u32) -> Tag
+        ensures { ReachesAlone (set_of self.now) origin result }
     {
         match self.announcers.get(origin as usize) {
             Some(announcer) => announcer.reached(),
             None => Tag::default(),
         }
+    }
+
+    /// Up to which tag the announcements that speak of the origin are reached, its own and joint ones, the beginning
+    /// where none is.
+    pub fn reached(&self, origin: u32) -> Tag
+        ensures { ReachesTo (set_of self.now) origin result }
+    {
+        later(self.reached_alone(origin), self.joint.reached())
     }
 
     /// Whether the origin broke an announcement of its own: more of its names before the announced tag have an event,
@@ -270,6 +297,14 @@ impl Table {
             return false;
         };
         announcer.is_broken()
+    }
+
+    /// Whether a joint announcement is broken: more names of all origins before its tag have an event, or a withdrawal,
+    /// than it said, or one of them has two payloads.
+    pub fn joint_broken(&self) -> bool
+        ensures { IsTrue result ↔ IsBrokenJointly (set_of self.now) }
+    {
+        self.joint.is_broken()
     }
 
     /// How many names of the origin have an event, how many have a withdrawal, and the greatest tag of these names. It
@@ -315,6 +350,13 @@ impl Table {
     }
 }
 
+/// The later one of two tags.
+fn later(one: Tag, other: Tag) -> Tag
+    ensures { result ≡ later one other }
+{
+    if one.is_before(other) { other } else { one }
+}
+
 /// The record at a place, from 1; `None` where there is no such place.
 fn record_at(records: &[Record], place: u32) -> Option<&Record>
     ensures { option_copied result ≡ record_at records.now place }
@@ -333,6 +375,7 @@ fn payload_at(records: &[Record], place: u32) -> Option<(u32, i64)>
         Record::Event { input, value, .. } => Some((input, value)),
         Record::Withdraw { .. } => None,
         Record::Announce { .. } => None,
+        Record::Joint { .. } => None,
     }
 }
 
@@ -391,6 +434,7 @@ fn place_of(records: &[Record], names: &Names, others: &Others, record: &Record)
             if kept == 0 { None } else { Some(kept) }
         }
         Record::Announce { .. } => others.place(record),
+        Record::Joint { .. } => others.place(record),
     }
 }
 
@@ -462,9 +506,31 @@ fn check_end(program: &Program, origin: u32, tag: Tag) -> Result<(), Refusal>
         MatchResult result (λ _. refusal_of program.now (Record.Announce origin tag events withdrawn) ≡ None)
         (λ k. refusal_of program.now (Record.Announce origin tag events withdrawn) ≡ Some k) }
 {
+    check_origin(program, origin)?;
+    check_last(program, tag)
+}
+
+/// Why the program takes no joint announcement up to this tag.
+fn check_joint(program: &Program, tag: Tag) -> Result<(), Refusal>
+    ensures { (events withdrawn : ℕ) →
+        MatchResult result (λ _. refusal_of program.now (Record.Joint tag events withdrawn) ≡ None)
+        (λ k. refusal_of program.now (Record.Joint tag events withdrawn) ≡ Some k) }
+{
+    if !program.form().has_joint() {
+        return Err(Refusal::NoOrigin);
+    }
+    check_last(program, tag)
+}
+
+/// Why the program takes no announcement up to this tag, whoever announces.
+fn check_last(program: &Program, tag: Tag) -> Result<(), Refusal>
+    ensures { MatchResult result
+        (λ _. (is_before (end_of program.now) tag || nat_lt (top_of program.now) tag.microstep) ≡ false)
+        (λ k. ((is_before (end_of program.now) tag || nat_lt (top_of program.now) tag.microstep) ≡ true)
+        × (k ≡ Refusal.PastStop)) }
+{
     // Each program is valid, and so its stop is in range.
     program.valid();
-    check_origin(program, origin)?;
     let end = Tag::beginning_of(program.stop() + 1);
     if end.is_before(tag) || program.top() < tag.micro() {
         return Err(Refusal::PastStop);

@@ -12,7 +12,7 @@ use Rattle.warp_step.specs.Run.{Row, Run}
 use Rattle.warp_step.specs.Snapshot.{start_state}
 use Rattle.warp_step.proofs.TraceExists.{exists}
 use Rattle.warp_record.specs.declared.record.Record.{Record}
-use Rattle.warp_record.specs.declared.record.Record.TheVariants.{Event, Withdraw, Announce}
+use Rattle.warp_record.specs.declared.record.Record.TheVariants.{Event, Withdraw, Announce, Joint}
 use Rattle.warp_table.specs.Announced.{IsHorizon}
 use Rattle.warp_table.specs.Check.{refusal_of}
 use Rattle.warp_table.specs.Records.{set_of}
@@ -32,6 +32,7 @@ fits_more : (P : Program) (table : List Entry) (said : Record) → IsTrue (list_
 fits_more P table (Event o t input value) fits none = events_pass (event_fits P) o t input value table fits (allowed_takes P o t input value none)
 fits_more P table (Withdraw o t) fits none = withdrawal_passes (event_fits P) o t table fits
 fits_more P table (Announce o t events withdrawn) fits none = fits
+fits_more P table (Joint t events withdrawn) fits none = fits
 
 all_fit : (P : Program) (records : List Record) (table : List Entry) → IsTrue (list_all (event_fits P) (live table)) → AreAllowed P records
     → IsTrue (list_all (event_fits P) (live (fold with_record table records)))

@@ -14,7 +14,7 @@ use Rattle.warp_step.specs.Run.{Row, Run}
 use Rattle.warp_table.specs.Announced.{IsHorizon}
 use Rattle.warp_table.specs.Names.{IsLive}
 use Rattle.warp_table.specs.Records.{Records}
-use Rattle.warp_trace.specs.Labels.{Names, quoted, target_name}
+use Rattle.warp_trace.specs.Labels.{Names, quoted, target_name, variable_name}
 use Rattle.warp_trace.specs.declared.item.Item.{Item}
 use Rattle.warp_trace.specs.declared.item.Item.TheVariants.{Came, Due, Changed, Put}
 
@@ -59,7 +59,7 @@ abbrev pub item_text : Names → Item → List ℕ
 item_text names (Came origin input value) =
     codes "{\"origin\":" ++ decimal origin ++ codes ",\"input\":" ++ quoted names.inputs input ++ codes ",\"value\":" ++ signed_decimal value ++ codes "}"
 item_text names (Due target value) = codes "{\"target\":" ++ target_name names target ++ codes ",\"value\":" ++ signed_decimal value ++ codes "}"
-item_text names (Changed variable value) = quoted names.variables variable ++ codes ":" ++ signed_decimal value
+item_text names (Changed variable value) = variable_name names variable ++ codes ":" ++ signed_decimal value
 item_text names (Put output value) = quoted names.outputs output ++ codes ":" ++ signed_decimal value
 
 -- items, with a comma before each but the first

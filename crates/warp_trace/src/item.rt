@@ -3,7 +3,7 @@ ghost use Rattle.std.specs.Prelude.{◌≡◌, ◌++◌, ◌∷◌, [], ◌==◌
 ghost use Rattle.std.specs.Prelude.{ℕ, ◌<◌, ◌≤◌, IsTrue, false, slice_get, slice_index_or};
 ghost use Rattle.std.specs.Option.{option_map_or};
 ghost use Rattle.std.specs.Ordering.{int_eq};
-ghost use Rattle.warp_tag.specs.Limits.{most_variables};
+ghost use Rattle.warp_tag.specs.Limits.{most_variables, widest};
 ghost use Rattle.warp_tag.specs.Table.{live};
 ghost use Rattle.warp_trace.specs.Trace.{came, came_of, changed, changed_at, changed_of, due, put};
 ghost use Rattle.warp_trace.specs.inner.Tracing.{changed_from};
@@ -143,7 +143,7 @@ fn add_changed(
     value: i64,
     items: &mut Vec<Item>,
 ) -> Result<(), OutOfMemory>
-    requires { number < most_variables }
+    requires { number < most_variables widest }
     ensures { OnOk result (items.new.items ≡ items.old.items ++ changed_of before.now number value) }
 {
     if !was(before, number, value) {
@@ -160,7 +160,7 @@ fn add_changed_at(
     number: usize,
     items: &mut Vec<Item>,
 ) -> Result<(), OutOfMemory>
-    requires { number < most_variables }
+    requires { number < most_variables widest }
     ensures { OnOk result (items.new.items ≡ items.old.items ++ changed_at before.now after.now number) }
 {
     match after.get(number) {
@@ -191,7 +191,7 @@ fn add_others(
     end: usize,
     items: &mut Vec<Item>,
 ) -> Result<(), OutOfMemory>
-    requires few { end ≤ most_variables }
+    requires few { end ≤ most_variables widest }
     requires end { (from ≤ end) × (end ≤ length after.now) }
     ensures { OnOk result (items.new.items ++ changed_from before.now after.now end
         ≡ items.old.items ++ changed_from before.now after.now from) }
@@ -204,7 +204,7 @@ fn add_others(
 
 /// Gathers the variables of these whose values were others. It compares them run by run.
 fn gather_others(before: &[i64], after: &[i64], items: &mut Vec<Item>) -> Result<(), OutOfMemory>
-    requires { length after.now ≤ most_variables }
+    requires { length after.now ≤ most_variables widest }
     ensures { OnOk result (items.new.items ≡ changed before.now after.now) }
 {
     items.clear();

@@ -136,7 +136,7 @@ impl Desk for Recorder {
 /// That a record's origin is in range, against which the program has no reason. It does nothing.
 fn origin_in_range(program: &Program, record: &Record)
     requires { refusal_of program.now «record».now ≡ None }
-    ensures { origin_of «record».now < most_origins widest }
+    ensures { IfSome (origin_of «record».now) (λ origin. origin < most_origins widest) }
 {
     // Each program is valid, and so has few origins.
     program.valid();

@@ -1,14 +1,16 @@
 //! The line of a row of a trace, part by part.
-ghost use Rattle.std.specs.Prelude.{◌≡◌, ◌++◌, ℕ, List, OnOk, codes, decimal, length, map, string_bytes};
+ghost use Rattle.std.specs.Prelude.{◌≡◌, ◌≤◌, ◌+◌, ◌-◌, ◌&&◌, ◌++◌, ℕ, List, OnOk, codes, decimal, length, map, nat_le, nat_lt, string_bytes};
 ghost use Rattle.std.specs.Fmt.{signed_decimal};
-ghost use Rattle.warp_trace.specs.Labels.{name_at, quoted, target_name};
+ghost use Rattle.std.specs.Option.{unwrap_or};
+ghost use Rattle.warp_step.specs.Labelled.{array_name};
+ghost use Rattle.warp_trace.specs.Labels.{cell_name, name_at, quoted, target_name};
 ghost use Rattle.warp_trace.specs.Trace.{item_text, listed, pending_part, released_part, tag_part};
 
 use crate::item::Item;
 use crate::labels::Labels;
 use itoa::Buffer;
 use warp_body::Target;
-use warp_step::State;
+use warp_step::{ArrayLabel, State};
 use warp_tag::{OutOfMemory, Tag};
 
 /// Appends a number. Most have one digit: origins, microsteps and how many entries are pending.
@@ -132,6 +134,58 @@ pub(crate) fn append_pair(
     append_value(text, value)
 }
 
+/// Appends the name of a variable, or of the cell that it is, and its value.
+fn append_changed(
+    text: &mut Vec<u8>,
+    labels: &Labels,
+    variable: u32,
+    value: i64,
+) -> Result<(), OutOfMemory>
+    ensures { OnOk result
+        (text.new.items ≡ text.old.items ++ item_text labels.now (Item.Changed variable value)) }
+{
+    if (variable as usize) < labels.variables.len() {
+        return append_pair(text, &labels.variables, variable, value);
+    }
+    text.push(b'"')?;
+    append_cell(text, &labels.arrays, variable)?;
+    text.extend_from_slice(b"\":")?;
+    append_value(text, value)
+}
+
+/// Appends the name of the cell of one of these arrays that the variable with this number is, else `?` and the number.
+fn append_cell(text: &mut Vec<u8>, arrays: &[ArrayLabel], variable: u32) -> Result<(), OutOfMemory>
+    ensures { OnOk result (text.new.items ≡ text.old.items
+        ++ unwrap_or (cell_name (map array_name arrays.now) variable) (codes "?" ++ decimal variable)) }
+{
+    for array in arrays {
+        if has_cell(array, variable) {
+            return append_cell_of(text, array, variable);
+        }
+    }
+    text.push(b'?')?;
+    append_number(text, u64::from(variable))
+}
+
+/// Whether the variable with this number is a cell of the array.
+fn has_cell(array: &ArrayLabel, variable: u32) -> bool
+    ensures { result ≡ (nat_le array.now.first variable && nat_lt variable (array.now.first + array.now.count)) }
+{
+    array.first <= variable && variable - array.first < array.count
+}
+
+/// Appends the name of the array, and behind it in brackets which of its cells the variable with this number is.
+fn append_cell_of(text: &mut Vec<u8>, array: &ArrayLabel, variable: u32) -> Result<(), OutOfMemory>
+    requires { array.now.first ≤ variable }
+    ensures { OnOk result (text.new.items ≡ text.old.items ++ ((array_name array.now).label
+        ++ codes "[" ++ decimal (variable - array.now.first) ++ codes "]")) }
+{
+    text.extend_from_slice(array.label.as_bytes())?;
+    text.push(b'[')?;
+    append_number(text, u64::from(variable - array.first))?;
+    text.extend_from_slice(b"]")
+}
+
 /// Appends an item.
 fn append_item(text: &mut Vec<u8>, labels: &Labels, item: &Item) -> Result<(), OutOfMemory>
     ensures { OnOk result (text.new.items ≡ text.old.items ++ item_text labels.now item.now) }
@@ -143,7 +197,7 @@ fn append_item(text: &mut Vec<u8>, labels: &Labels, item: &Item) -> Result<(), O
             value,
         } => append_event(text, labels, origin, input, value),
         Item::Due { target, value } => append_due(text, labels, target, value),
-        Item::Changed { variable, value } => append_pair(text, &labels.variables, variable, value),
+        Item::Changed { variable, value } => append_changed(text, labels, variable, value),
         Item::Put { output, value } => append_pair(text, &labels.outputs, output, value),
     }
 }

@@ -5,6 +5,7 @@ use Rattle.std.specs.Bool.{Decides}
 use Rattle.std.proofs.lemmas.Bool.Decides.{Decides-eqb, Decides-int_eq, Decides-and, Decides-like, Decides-ltb}
 use Rattle.std.proofs.lemmas.List.{append-nil, drop_at, get_or_append_left}
 use Rattle.std.proofs.lemmas.List.Elements.{All-contains}
+use Rattle.warp_tag.specs.Limits.{has_joint}
 use Rattle.warp_tag.specs.Lists.{StartsWith}
 use Rattle.warp_tag.specs.Moment.{Moment}
 use Rattle.warp_tag.specs.declared.out.Out.{Out}
@@ -12,10 +13,11 @@ use Rattle.warp_tag.specs.contracts.out.OutPartialEq.TheImpl.{eq-value}
 use Rattle.warp_step.specs.Program.{Program}
 use Rattle.warp_step.specs.Events.{is_declared}
 use Rattle.warp_record.specs.declared.record.Record.{Record}
-use Rattle.warp_record.specs.declared.record.Record.TheVariants.{Announce}
+use Rattle.warp_record.specs.declared.record.Record.TheVariants.{Announce, Joint}
 use Rattle.warp_record.specs.declared.reply.Refusal.{Refusal}
 use Rattle.warp_record.specs.declared.reply.Refusal.TheVariants.{NoOrigin}
 use Rattle.warp_table.specs.Announced.{IsBroken, IsHonest, IsWithin}
+use Rattle.warp_table.specs.Joint.{IsBrokenJointly}
 use Rattle.warp_table.specs.Check.{refusal_of}
 use Rattle.warp_table.specs.Log.{EachOnce}
 use Rattle.warp_table.specs.Records.{Records, IsIn, set_of}
@@ -45,6 +47,11 @@ pub all_taken : (P : Program) (records : List Record) → AreAllowed P records �
 all_taken P records allowed =
     λ r has. All-contains (λ x. refusal_of P x ≡ None) records r allowed ((in_set records r).1 has)
 
+-- what is refused where a test fails passes it where nothing is refused
+declared : (b : Bool) (other : Option Refusal) → (if b then other else Some NoOrigin) ≡ None → b ≡ true
+declared true other e = refl
+declared false other e = absurd (cc (e))
+
 -- only an origin of the program can have broken an announcement
 module _ (P : Program) (records : List Record) (allowed : AreAllowed P records) where
   is_own : (origin : ℕ) → IsBroken (set_of records) origin → origin < P.origins
@@ -52,16 +59,23 @@ module _ (P : Program) (records : List Record) (allowed : AreAllowed P records) 
       let said = Announce origin broken.0 broken.1 broken.2 in
       let fits : refusal_of P said ≡ None = all_taken P records allowed said broken.3 in
       (Decides-ltb origin P.origins).0 (declared (is_declared P origin) _ fits)
-    where
-      declared : (b : Bool) (other : Option Refusal) → (if b then other else Some NoOrigin) ≡ None → b ≡ true
-      declared true other e = refl
-      declared false other e = absurd (cc (e))
 
-  -- so where none of these did none did
+  -- only where the program has joint announcements can one be broken
+  has_some : IsBrokenJointly (set_of records) → has_joint P.form ≡ true
+  has_some broken =
+      let said = Joint broken.0 broken.1 broken.2 in
+      declared (has_joint P.form) _ (all_taken P records allowed said broken.3)
+
+  -- so where none of these did none did, and no joint one is broken where the program has none such, or none is
   pub none_broken : (a : Answers) → AreAnswers P (set_of records) a → ((origin : ℕ) → origin < P.origins → a.broken origin ≡ false)
-      → IsHonest (set_of records)
-  none_broken a h none = λ origin broken.
-      both_ways (a.broken origin) (none origin (is_own origin broken)) ((h.broken origin).1 broken)
+      → (has_joint P.form && a.broken_jointly) ≡ false → IsHonest (set_of records)
+  none_broken a h none jointly = record {
+    each = λ origin broken. both_ways (a.broken origin) (none origin (is_own origin broken)) ((h.broken origin).1 broken);
+    jointly = λ broken.
+        let both : (has_joint P.form && a.broken_jointly) ≡ true =
+        (λ i. has_some broken i && a.broken_jointly) ∙ h.broken_jointly.1 broken in
+        both_ways (has_joint P.form && a.broken_jointly) jointly both;
+  }
 
 -- fronts of fronts
 pub front_of_front : {X : Type 0} (xs ys zs : List X) → StartsWith xs ys → StartsWith ys zs → StartsWith xs zs

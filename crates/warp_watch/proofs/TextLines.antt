@@ -1,7 +1,9 @@
 -- Lines word by word, pages line by line.
-use Rattle.std.proofs.Common.{◌≡◌, ◌∙◌, ◌<◌, inl, inr, ◌≤◌, ◌+◌, ◌-◌, ℕ, zero, suc, List, [], ◌∷◌, ◌++◌, Bool, true, false, Some, add-one, ap, append_assoc, arith, drop, drop-cons, if◌then◌else◌, length, map, refl, sym, take}
+use Rattle.std.proofs.Common.{◌≡◌, ◌≢◌, ◌⊎◌, ◌∙◌, ◌<◌, inl, inr, ◌≤◌, ◌+◌, ◌-◌, ℕ, ℤ, zero, suc, List, [], ◌∷◌, ◌++◌, Bool, true, false, Some, add-one, ap, append_assoc, arith, drop, drop-cons, if◌then◌else◌, length, map, min, refl, sym, take}
 use Rattle.std.specs.Prelude.{codes, decimal, slice_get}
+use Rattle.std.specs.Fmt.{signed_decimal}
 use Rattle.std.specs.List.{flat_map, join_with_byte}
+use Rattle.std.proofs.lemmas.Bool.{cases_lt}
 use Rattle.std.proofs.lemmas.List.{append-nil, drop_all}
 use Rattle.std.proofs.lemmas.Grind.{flat_map-append}
 use Rattle.std.proofs.lemmas.Option.{get_or_from_slice_get, slice_get_cases, slice_get_within}
@@ -12,10 +14,11 @@ use Rattle.warp_table.specs.Log.{IsAt}
 use Rattle.warp_record.specs.Reply.{out_words, reply_line}
 use Rattle.warp_record.specs.declared.reply.Refusal.TheVariants.{NoOrigin}
 use Rattle.warp_record.specs.declared.reply.Reply.TheVariants.{Refused}
-use Rattle.warp_step.specs.Program.{Program}
+use Rattle.warp_step.specs.Program.{Program, told_of}
+use Rattle.warp_step.specs.declared.parts.Variable.{Variable}
 use Rattle.warp_step.specs.Events.{is_declared}
 use Rattle.warp_table.specs.declared.table.NameCounts.{NameCounts}
-use Rattle.warp_watch.specs.Lines.{broken_below, counts_line, counts_text, line_of}
+use Rattle.warp_watch.specs.Lines.{breach_line, broken_below, cells_text, counts_line, counts_text, joint_words, line_of}
 
 -- joined words are the first one, and the others behind a space each
 pub joined_words : (word : List ℕ) (words : List (List ℕ)) → join_with_byte 32 (word ∷ words) ≡ word ++ flat_map (λ w. 32 ∷ w) words
@@ -95,6 +98,73 @@ words_added f word len xs t0 t1 t2 t3 t4 e1 e2 e3 e4 =
     put : (t0 t1 t2 t3 t4 a b c d : List ℕ) → t1 ≡ t0 ++ a → t2 ≡ t1 ++ b → t3 ≡ t2 ++ c → t4 ≡ t3 ++ d
         → t4 ≡ t0 ++ ((a ++ (b ++ c)) ++ d)
     put t0 t1 t2 t3 t4 a b c d e1 e2 e3 e4 = rw (e4, e3, e2, e1) (simp append_assoc)
+
+-- and one word more behind these, where this is so
+pub breach_added : (len : ℕ) (origins : List ℕ) (so : Bool) (t0 t1 t2 t3 t4 t5 : List ℕ) → t1 ≡ t0 ++ codes "breach"
+    → t2 ≡ t1 ++ 32 ∷ decimal len → t3 ≡ t2 ++ flat_map (λ x. 32 ∷ decimal x) origins → t4 ≡ t3 ++ (if so then codes " *" else [])
+    → t5 ≡ t4 ++ 10 ∷ [] → t5 ≡ t0 ++ breach_line len origins so
+breach_added len origins so t0 t1 t2 t3 t4 t5 e1 e2 e3 e4 e5 =
+    let word : List ℕ → List ℕ = λ w. 32 ∷ w in
+    let rest : List (List ℕ) = map decimal origins ++ joint_words so in
+    let star : (b : Bool) → flat_map word (joint_words b) ≡ (if b then codes " *" else []) = λ b. star_of b in
+    let last : flat_map word rest ≡ flat_map (λ x. 32 ∷ decimal x) origins ++ (if so then codes " *" else []) =
+    flat_map-append word (map decimal origins) (joint_words so)
+    ∙ (λ i. spaced decimal origins i ++ star so i) in
+    let words : join_with_byte 32 (codes "breach" ∷ decimal len ∷ rest)
+    ≡ codes "breach" ++ ((32 ∷ decimal len) ++ (flat_map (λ x. 32 ∷ decimal x) origins ++ (if so then codes " *" else []))) =
+    joined_words (codes "breach") (decimal len ∷ rest) ∙ ap (λ l. codes "breach" ++ ((32 ∷ decimal len) ++ l)) last in
+    put t0 t1 t2 t3 t4 t5 (codes "breach") (32 ∷ decimal len) (flat_map (λ x. 32 ∷ decimal x) origins) (if so then codes " *" else []) (10 ∷ [])
+    e1 e2 e3 e4 e5
+    ∙ ap (λ line. t0 ++ (line ++ 10 ∷ [])) (sym words)
+  where
+    star_of : (b : Bool) → flat_map (λ (w : List ℕ). 32 ∷ w) (joint_words b) ≡ (if b then codes " *" else [])
+    star_of true = refl
+    star_of false = refl
+
+    put : (t0 t1 t2 t3 t4 t5 a b c d e : List ℕ) → t1 ≡ t0 ++ a → t2 ≡ t1 ++ b → t3 ≡ t2 ++ c → t4 ≡ t3 ++ d → t5 ≡ t4 ++ e
+        → t5 ≡ t0 ++ ((a ++ (b ++ (c ++ d))) ++ e)
+    put t0 t1 t2 t3 t4 t5 a b c d e e1 e2 e3 e4 e5 = rw (e5, e4, e3, e2, e1) (simp append_assoc)
+
+-- the line of some values, where there are some
+pub cells_added : (len first : ℕ) (values : List ℤ) (t0 t1 t2 t3 t4 t5 : List ℕ) → values ≢ [] → t1 ≡ t0 ++ codes "cells"
+    → t2 ≡ t1 ++ 32 ∷ decimal len → t3 ≡ t2 ++ 32 ∷ decimal first → t4 ≡ t3 ++ flat_map (λ x. 32 ∷ signed_decimal x) values
+    → t5 ≡ t4 ++ 10 ∷ [] → t5 ≡ t0 ++ cells_text len first values
+cells_added len first [] t0 t1 t2 t3 t4 t5 some e1 e2 e3 e4 e5 = absurd (some refl)
+cells_added len first (value ∷ more) t0 t1 t2 t3 t4 t5 some e1 e2 e3 e4 e5 =
+    let values : List ℤ = value ∷ more in
+    let words : join_with_byte 32 (codes "cells" ∷ decimal len ∷ decimal first ∷ map signed_decimal values)
+    ≡ codes "cells" ++ ((32 ∷ decimal len) ++ ((32 ∷ decimal first) ++ flat_map (λ x. 32 ∷ signed_decimal x) values)) =
+    joined_words (codes "cells") (decimal len ∷ decimal first ∷ map signed_decimal values)
+    ∙ ap (λ rest. codes "cells" ++ ((32 ∷ decimal len) ++ ((32 ∷ decimal first) ++ rest))) (spaced signed_decimal values) in
+    put t0 t1 t2 t3 t4 t5 (codes "cells") (32 ∷ decimal len) (32 ∷ decimal first) (flat_map (λ x. 32 ∷ signed_decimal x) values) (10 ∷ [])
+    e1 e2 e3 e4 e5
+    ∙ ap (λ line. t0 ++ (line ++ 10 ∷ [])) (sym words)
+  where
+    put : (t0 t1 t2 t3 t4 t5 a b c d e : List ℕ) → t1 ≡ t0 ++ a → t2 ≡ t1 ++ b → t3 ≡ t2 ++ c → t4 ≡ t3 ++ d → t5 ≡ t4 ++ e
+        → t5 ≡ t0 ++ ((a ++ (b ++ (c ++ d))) ++ e)
+    put t0 t1 t2 t3 t4 t5 a b c d e e1 e2 e3 e4 e5 = rw (e5, e4, e3, e2, e1) (simp append_assoc)
+
+-- ---- values that are told
+
+-- what is told of the values that are left, behind a space each
+abbrev pub told_words : List Variable → List ℤ → List ℕ
+told_words vs xs = flat_map (λ x. 32 ∷ signed_decimal x) (told_of vs xs)
+
+-- where one of the lists has no more nothing is told
+told_none : (vs : List Variable) (xs : List ℤ) → (vs ≡ []) ⊎ (xs ≡ []) → told_words vs xs ≡ []
+told_none [] xs e = refl
+told_none (v ∷ vs) [] e = refl
+told_none (v ∷ vs) (x ∷ xs) (inl e) = absurd (cc (e))
+told_none (v ∷ vs) (x ∷ xs) (inr e) = absurd (cc (e))
+
+pub told_last : (vs : List Variable) (xs : List ℤ) (i : ℕ) (old mid : List ℕ) → i ≡ min (length vs) (length xs)
+    → mid ++ told_words (drop i vs) (drop i xs) ≡ old → mid ≡ old
+told_last vs xs i old mid end was =
+    let none : (drop i vs ≡ []) ⊎ (drop i xs ≡ []) = elim (cases_lt i (length vs)) [
+      | inl below ↦ inr (drop_all i xs (omega (arith, below, end)))
+      | inr past ↦ inl (drop_all i vs past)
+    ] in
+    sym (append-nil mid) ∙ ap (λ t. mid ++ t) (sym (told_none (drop i vs) (drop i xs) none)) ∙ was
 
 -- the line of an origin's counts, where the program has that origin
 pub counts_added : (P : Program) (len origin : ℕ) (k : NameCounts) (t0 t1 t2 t3 t4 t5 t6 : List ℕ) → is_declared P origin ≡ true

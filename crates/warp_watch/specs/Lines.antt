@@ -8,7 +8,7 @@ use Rattle.warp_tag.specs.declared.out.Out.{Out}
 use Rattle.warp_record.specs.declared.record.Record.{Record}
 use Rattle.warp_record.specs.Record.{record_words, tag_words}
 use Rattle.warp_record.specs.Reply.{out_words, reply_line}
-use Rattle.warp_record.specs.declared.reply.Refusal.TheVariants.{NoOrigin}
+use Rattle.warp_record.specs.declared.reply.Refusal.TheVariants.{NoOrigin, NoVar}
 use Rattle.warp_record.specs.declared.reply.Reply.TheVariants.{Refused}
 use Rattle.warp_step.specs.Program.{Program}
 use Rattle.warp_step.specs.Events.{is_declared}
@@ -58,13 +58,23 @@ log_page records from until =
     record_lines (first_place from)
     (take (page_count (length records + 1) (first_place from) until) (drop (first_place from - 1) records))
 
--- the line of all variables, at a log of this length
+-- the line of the variables that are told, at a log of this length
 abbrev pub vars_line : ℕ → List ℤ → List ℕ
 vars_line len values = line_of (codes "vars" ∷ decimal len ∷ map signed_decimal values)
 
--- the line of the broken origins, at a log of this length
-abbrev pub breach_line : ℕ → List ℕ → List ℕ
-breach_line len origins = line_of (codes "breach" ∷ decimal len ∷ map decimal origins)
+-- the line of these variables, of which the first has this number, at a log of this length; refusal 6 where there are none
+abbrev pub cells_text : ℕ → ℕ → List ℤ → List ℕ
+cells_text len first [] = reply_line (Refused NoVar)
+cells_text len first (value ∷ values) =
+    line_of (codes "cells" ∷ decimal len ∷ decimal first ∷ map signed_decimal (value ∷ values))
+
+-- a word more where a joint announcement is broken
+abbrev pub joint_words : Bool → List (List ℕ)
+joint_words jointly = if jointly then codes "*" ∷ [] else []
+
+-- the line of the broken origins, and of whether a joint announcement is broken, at a log of this length
+abbrev pub breach_line : ℕ → List ℕ → Bool → List ℕ
+breach_line len origins jointly = line_of (codes "breach" ∷ decimal len ∷ map decimal origins ++ joint_words jointly)
 
 -- the line of an origin's counts, at a log of this length
 abbrev pub counts_line : ℕ → ℕ → NameCounts → List ℕ

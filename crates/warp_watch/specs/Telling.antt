@@ -1,8 +1,9 @@
 -- What is told to a question.
 use Rattle.std.specs.Prelude.{◌≡◌, ℕ, ◌+◌, Bool, false, List, [], ◌∷◌, ◌++◌, length, take, drop, codes, decimal}
 use Rattle.std.specs.Prelude.{slice_get, nat_le, ◌&&◌, if◌then◌else◌}
+use Rattle.warp_tag.specs.Limits.{has_joint}
 use Rattle.warp_tag.specs.Moment.{Moment}
-use Rattle.warp_step.specs.Program.{Program}
+use Rattle.warp_step.specs.Program.{Program, told_of}
 use Rattle.warp_record.specs.declared.record.Record.{Record}
 use Rattle.warp_record.specs.Record.{tag_words}
 use Rattle.warp_record.specs.Reply.{flag_word}
@@ -11,11 +12,11 @@ use Rattle.warp_table.specs.NameCounts.{AreCounts}
 use Rattle.warp_table.specs.Records.{Records, set_of}
 use Rattle.warp_table.specs.declared.table.NameCounts.{NameCounts}
 use Rattle.warp_replica.specs.Answers.{Answers, AreAnswers}
-use Rattle.warp_watch.specs.Lines.{breach_line, broken_below, counts_text, first_place, frozen_line, line_of, log_page}
+use Rattle.warp_watch.specs.Lines.{breach_line, broken_below, cells_text, counts_text, first_place, frozen_line, line_of, log_page}
 use Rattle.warp_watch.specs.Lines.{output_lines, page_count, reached_text, release_line, vars_line}
 use Rattle.warp_watch.specs.Shown.{ShownState}
 use Rattle.warp_watch.specs.declared.question.Question.{Question}
-use Rattle.warp_watch.specs.declared.question.Question.TheVariants.{Vars, Releases, Release, Horizon, Breaches}
+use Rattle.warp_watch.specs.declared.question.Question.TheVariants.{Vars, Cells, Releases, Release, Horizon, Breaches}
 use Rattle.warp_watch.specs.declared.question.Question.TheVariants.{Counts, Reached, Log, Released}
 use Rattle.warp_watch.specs.declared.question.Told.{Told}
 
@@ -45,11 +46,12 @@ IsOfAsked S other o = Unit {0}
 -- the text that answers a question, by a log, what was shown, what the program answers over the set of the log, and what
 -- is asked of an origin
 abbrev pub text_of : Program → List Record → ShownState → Answers → OfOrigin → Question → List ℕ
-text_of P records s a o Vars = vars_line (length records) a.state.vars
+text_of P records s a o Vars = vars_line (length records) (told_of P.variables a.state.vars)
+text_of P records s a o (Cells first count) = cells_text (length records) first (take count (drop first a.state.vars))
 text_of P records s a o Releases = releases_line (length records) s
 text_of P records s a o (Release number) = release_line (length records) (slice_get s.rows number)
 text_of P records s a o Horizon = line_of (codes "horizon" ∷ decimal (length records) ∷ tag_words a.horizon)
-text_of P records s a o Breaches = breach_line (length records) (broken_below a.broken P.origins)
+text_of P records s a o Breaches = breach_line (length records) (broken_below a.broken P.origins) (has_joint P.form && a.broken_jointly)
 text_of P records s a o (Counts origin) = counts_text P (length records) origin o.counts
 text_of P records s a o (Reached origin) = reached_text P (length records) origin o.reached
 text_of P records s a o (Log from until) = log_page records from until

@@ -6,15 +6,23 @@ pub const PAGE: u32 = 256;
 /// What the executor is asked beside lines.
 #[derive(Clone, Copy, Debug, PartialEq, Eq)]
 pub enum Question {
-    /// All variables: `vars N v0 v1 ..`.
+    /// The variables that are told, which are neither hidden nor cells: `vars N v0 v1 ..`.
     Vars,
+    /// So many variables from this one on, hidden ones and cells of arrays too, as far as there are such: `cells N K v v ..`.
+    /// `refused 6` where the program has no variable of the first number.
+    Cells {
+        /// The number of the first.
+        first: u32,
+        /// How many, 1 to 4,096.
+        count: u32,
+    },
     /// How many released outputs are shown, and whether they are frozen, 0 or 1: `releases N C F`.
     Releases,
     /// The shown released output of this number, from 0: `release N T M P V`, or `none N`.
     Release(u32),
     /// The horizon: `horizon N T M`.
     Horizon,
-    /// The broken origins, in rising order: `breach N O O ..`.
+    /// The broken origins, in rising order: `breach N O O ..`, and ` *` where a joint announcement is broken.
     Breaches,
     /// How many names of this origin have an event, how many have a withdrawal, and the greatest tag of these names, 0 0
     /// where there is none: `counts N O E W T M`. `refused 2` where the program has no such origin.

@@ -1,5 +1,6 @@
 //! The released outputs that were shown.
-ghost use Rattle.std.specs.Prelude.{◌≡◌, ◌<◌, ◌≤◌, ◌↔◌, [], List, IsTrue, OnErr, OnOk, drop, false, length};
+ghost use Rattle.std.specs.Prelude.{◌≡◌, ◌<◌, ◌≤◌, ◌↔◌, ◌&&◌, [], List, IsTrue, OnErr, OnOk, drop, false, length};
+ghost use Rattle.warp_tag.specs.Limits.{has_joint};
 ghost use Rattle.warp_tag.specs.Lists.{StartsWith};
 ghost use Rattle.warp_table.specs.Announced.{IsHonest};
 ghost use Rattle.warp_table.specs.Records.{set_of};
@@ -138,7 +139,7 @@ fn goes_on<T: Timeline>(replica: &Replica<T>, released: &[Out], rows: &[Out]) ->
     released.starts_with(rows)
 }
 
-/// Whether no origin broke an announcement, of a settled replica.
+/// Whether no origin broke an announcement, and no joint one is broken, of a settled replica.
 fn is_honest<T: Timeline>(replica: &Replica<T>) -> bool
     requires { IsTrue (T.settled replica.now.timeline) }
     ensures { IsTrue result → IsHonest (set_of replica.now.records) }
@@ -154,7 +155,23 @@ fn is_honest<T: Timeline>(replica: &Replica<T>) -> bool
             return false;
         }
     }
+    if is_jointly_broken(replica) {
+        return false;
+    }
     true
+}
+
+/// Whether a joint announcement of a settled replica is broken; in a form that has none, none is.
+pub(crate) fn is_jointly_broken<T: Timeline>(replica: &Replica<T>) -> bool
+    requires settled { IsTrue (T.settled replica.now.timeline) }
+    ensures { (a : Answers) → AreAnswers replica.now.program (set_of replica.now.records) a →
+        result ≡ (has_joint replica.now.program.form && a.broken_jointly) }
+{
+    one_answer();
+    match replica.answer(Query::JointBreach) {
+        Reply::Breach { broken, .. } => broken,
+        _ => false,
+    }
 }
 
 /// Whether an origin of a settled replica's program broke an announcement.

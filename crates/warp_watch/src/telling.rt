@@ -7,7 +7,7 @@ ghost use Rattle.warp_replica.specs.Answers.{Answers, AreAnswers};
 ghost use Rattle.warp_watch.specs.Lines.{frozen_line, output_lines, page_count, release_line};
 ghost use Rattle.warp_watch.specs.Telling.{IsOfAsked, OfOrigin, Tells, next_of, releases_line, tells_frozen, text_of};
 
-use crate::lines::{add_breaches, add_counts, add_reached, add_records, add_vars};
+use crate::lines::{add_breaches, add_cells, add_counts, add_reached, add_records, add_vars};
 use crate::question::{PAGE, Question, Told};
 use crate::shown::Shown;
 use crate::words::{add_flag, add_frozen, add_number, add_output, add_reply, add_rows};
@@ -110,6 +110,7 @@ fn append<T: Timeline>(
     one_answer();
     match *question {
         Question::Vars => add_vars(text, replica),
+        Question::Cells { first, count } => add_cells(text, replica, first, count),
         Question::Releases => add_releases(text, replica.len(), shown),
         Question::Release(number) => add_release(text, replica.len(), shown, number),
         Question::Horizon => add_reply(text, &replica.answer(Query::Horizon)),

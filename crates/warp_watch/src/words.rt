@@ -1,13 +1,15 @@
 //! Words and lines, appended one behind the other.
-ghost use Rattle.std.specs.Prelude.{◌≡◌, ◌-◌, ◌∷◌, ◌++◌, [], OnOk, decimal, drop, take};
+ghost use Rattle.std.specs.Prelude.{◌≡◌, ◌-◌, ◌∷◌, ◌++◌, [], OnOk, codes, decimal, drop, if◌then◌else◌, take};
 ghost use Rattle.std.specs.Fmt.{signed_decimal};
 ghost use Rattle.std.specs.List.{flat_map};
+ghost use Rattle.warp_step.specs.Program.{told_of};
 ghost use Rattle.warp_record.specs.Record.{tag_words};
 ghost use Rattle.warp_record.specs.Reply.{flag_word, out_words, reply_line};
 ghost use Rattle.warp_watch.specs.Lines.{frozen_line, line_of, output_lines};
 
 use itoa::{Buffer, Integer};
 use warp_record::{REPLY_ROOM, Reply, write_reply_line};
+use warp_step::Variable;
 use warp_tag::{Out, OutOfMemory, Tag};
 
 /// Appends a space and a number.
@@ -83,6 +85,43 @@ pub(crate) fn add_output(
     text.extend_from_slice(word)?;
     add_number(text, number)?;
     add_out(text, out)
+}
+
+/// Appends the values of the variables that are told, each behind a space.
+pub(crate) fn add_told(
+    text: &mut Vec<u8>,
+    variables: &[Variable],
+    values: &[i64],
+) -> Result<(), OutOfMemory>
+    ensures { OnOk result (text.new.items
+        ≡ text.old.items ++ flat_map (λ value. 32 ∷ signed_decimal value) (told_of variables.now values.now)) }
+{
+    for (variable, value) in variables.iter().zip(values) {
+        add_value(text, variable.is_told, *value)?;
+    }
+    Ok(())
+}
+
+/// Appends a value behind a space, if it is told.
+#[inline(always)]
+fn add_value(text: &mut Vec<u8>, is_told: bool, value: i64) -> Result<(), OutOfMemory>
+    ensures { OnOk result (text.new.items
+        ≡ text.old.items ++ (if is_told then 32 ∷ signed_decimal value else [])) }
+{
+    if is_told {
+        return add_number(text, value);
+    }
+    Ok(())
+}
+
+/// Appends a star behind a space, where this is so.
+pub(crate) fn add_star(text: &mut Vec<u8>, is_so: bool) -> Result<(), OutOfMemory>
+    ensures { OnOk result (text.new.items ≡ text.old.items ++ (if is_so then codes " *" else [])) }
+{
+    if is_so {
+        return text.extend_from_slice(b" *");
+    }
+    Ok(())
 }
 
 /// Appends values, each behind a space.

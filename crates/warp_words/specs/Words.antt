@@ -76,11 +76,11 @@ serve_command =
     (wanted_number (codes "sessions") most_sessions)) (flag (codes "tell-pulls")))
     (further_number (codes "peer-timeout") most_seconds)) (any_words (codes "PEER"))
 
--- `check` with PROGRAM, `--numbers`, `--rows`, `--fingerprint`, `--names` and `--warn`
+-- `check` with PROGRAM, `--numbers`, `--rows`, `--work`, `--fingerprint`, `--names` and `--warn`
 abbrev pub check_command : App
 check_command =
-    with_rule (with_rule (with_rule (with_rule (with_rule (with_rule (new_app (codes "check"))
-    (wanted_word (codes "PROGRAM"))) (flag (codes "numbers"))) (flag (codes "rows")))
+    with_rule (with_rule (with_rule (with_rule (with_rule (with_rule (with_rule (new_app (codes "check"))
+    (wanted_word (codes "PROGRAM"))) (flag (codes "numbers"))) (flag (codes "rows"))) (flag (codes "work")))
     (flag (codes "fingerprint"))) (flag (codes "names"))) (flag (codes "warn"))
 
 -- `trace` with PROGRAM and `--steps`
@@ -186,6 +186,7 @@ abbrev pub check_options : List Row → CheckOptions
 check_options found = record {
   numbers = is_set (codes "numbers") found;
   rows = is_set (codes "rows") found;
+  work = is_set (codes "work") found;
   fingerprint = is_set (codes "fingerprint") found;
   names = is_set (codes "names") found;
   warnings = is_set (codes "warn") found;

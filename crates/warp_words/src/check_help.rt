@@ -21,6 +21,8 @@ pub(crate) const NUMBERS_HELP: &str = "Tells the numbers too by which lines and 
 
 pub(crate) const ROWS_HELP: &str = "Tells too how many rows the program makes by itself";
 
+pub(crate) const WORK_HELP: &str = "Tells too how much work its reactions are at most";
+
 pub(crate) const FINGERPRINT_HELP: &str = "Tells the program's fingerprint too";
 
 pub(crate) const NAMES_HELP: &str = "Tells its names too, as one line of JSON for other programs";
@@ -28,10 +30,11 @@ pub(crate) const NAMES_HELP: &str = "Tells its names too, as one line of JSON fo
 pub(crate) const WARN_HELP: &str = "Warns of what is allowed, and may not have been meant";
 
 const NOTES: &str = "\
-With --numbers a line follows for each variable, program input and program output, with its
-number and its name:
+With --numbers a line follows for each variable, array, program input and program output, with
+its number, of an array those of its first and its last cell, and its name:
 
   var K REACTOR.NAME
+  vars K to L REACTOR.ARRAY
   input I REACTOR.NAME origin O
   output P REACTOR.NAME
 
@@ -42,6 +45,12 @@ for each time at which startup or a timer is due. Actions and links with a delay
 
 They are executed as soon as a query comes, and where one of these is more than 1,000,000,
 standard error has a warning.
+
+With --work a line says how many nodes of expressions and statements all reactions together walk
+at one tag at most, each loop's as often as it may turn, and which reaction is the most. Those of
+a file of version 4 are 2,000,000 at most.
+
+  work N, of a reaction at most M, reaction I of REACTOR
 
 With --fingerprint a line has 64 hex digits, which are the same for two files exactly where
 they are the same program: white space, the order of keys and empty lists make no difference.

@@ -106,6 +106,8 @@ pub struct CheckOptions {
     pub numbers: bool,
     /// How many rows it makes by itself.
     pub rows: bool,
+    /// How much work its reactions are.
+    pub work: bool,
     /// Its fingerprint.
     pub fingerprint: bool,
     /// What its numbers stand for, for other programs.
@@ -152,6 +154,8 @@ const PEER_TIMEOUT: &str = "peer-timeout";
 const NUMBERS: &str = "numbers";
 
 const ROWS: &str = "rows";
+
+const WORK: &str = "work";
 
 const FINGERPRINT: &str = "fingerprint";
 
@@ -330,6 +334,11 @@ const CHECK: Subcommand = Subcommand {
         Part {
             name: ROWS,
             help: check_help::ROWS_HELP,
+            kind: PartKind::Flag,
+        },
+        Part {
+            name: WORK,
+            help: check_help::WORK_HELP,
             kind: PartKind::Flag,
         },
         Part {
@@ -536,6 +545,7 @@ fn check_options(found: &ArgMatches<'_>) -> CheckOptions
     CheckOptions {
         numbers: is_set(found, NUMBERS),
         rows: is_set(found, ROWS),
+        work: is_set(found, WORK),
         fingerprint: is_set(found, FINGERPRINT),
         names: is_set(found, NAMES),
         warnings: is_set(found, WARN),

@@ -5,13 +5,12 @@ use Rattle.std.proofs.Math.Bool.{and-false}
 use Rattle.std.proofs.lemmas.Bool.{and_from, cases_Bool, le-ltb, lt-ltb, ltb-true}
 use Rattle.std.proofs.lemmas.Bool.Decides.{nat_tests}
 use Rattle.std.proofs.lemmas.Option.{get_or_from_slice_get, slice_get-get_or, slice_get_within}
-use Rattle.warp_tag.specs.Limits.{most_records}
-use Rattle.warp_tag.specs.declared.form.Form.{Form}
+use Rattle.warp_tag.specs.Limits.{has_joint, most_records}
 use Rattle.warp_tag.specs.Moment.{is_before}
 use Rattle.warp_step.specs.Program.{Program, top_of}
 use Rattle.warp_step.specs.Events.{is_declared, is_in_time, has_input, owns_input}
 use Rattle.warp_record.specs.declared.record.Record.{Record}
-use Rattle.warp_record.specs.declared.record.Record.TheVariants.{Event, Withdraw, Announce}
+use Rattle.warp_record.specs.declared.record.Record.TheVariants.{Event, Withdraw, Announce, Joint}
 use Rattle.warp_record.specs.declared.reply.Refusal.{Refusal}
 use Rattle.warp_record.specs.declared.reply.Refusal.TheVariants.{NotYours, PastStop, LogFull, NoMemory}
 use Rattle.warp_table.specs.Check.{end_of, refusal_of}
@@ -47,6 +46,8 @@ no_reason P (Event origin tag input value) =
 no_reason P (Withdraw origin tag) = either (is_declared P origin) _ _ (either (is_in_time P tag) None (Some PastStop) refl refl) refl
 no_reason P (Announce origin tag events withdrawn) =
     either (is_declared P origin) _ _ (either (is_before (end_of P) tag || nat_lt (top_of P) tag.microstep) (Some PastStop) None refl refl) refl
+no_reason P (Joint tag events withdrawn) =
+    either (has_joint P.form) _ _ (either (is_before (end_of P) tag || nat_lt (top_of P) tag.microstep) (Some PastStop) None refl refl) refl
 
 -- a reason of a program
 abbrev some_refusal : Refusal → Option Refusal

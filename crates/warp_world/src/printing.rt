@@ -1,5 +1,6 @@
 //! What `warpd play` prints of a schedule.
-ghost use Rattle.std.specs.Prelude.{◌≡◌, ◌++◌, All, IfErr, IfOk, IsTrue, OnOk, length};
+ghost use Rattle.std.specs.Prelude.{◌≡◌, ◌++◌, All, IfErr, IfOk, IsTrue, OnOk, false, length, slice_get};
+ghost use Rattle.std.specs.Option.{option_map_or};
 ghost use Rattle.warp_table.specs.Records.{set_of};
 ghost use Rattle.warp_replica.specs.Answers.{Answers, AreAnswers};
 ghost use Rattle.warp_replica.specs.Gives.{reply_to};
@@ -7,7 +8,7 @@ ghost use Rattle.warp_world.specs.Replicas.{RunAll, logs_of};
 ghost use Rattle.warp_world.specs.Schedule.{IsFault};
 ghost use Rattle.warp_world.specs.Play.{PlaysSchedule, Prints, replica_lines};
 ghost use Rattle.warp_record.specs.Reply.{reply_line};
-ghost use Rattle.warp_world.specs.inner.Printing.{Adds, count_lines, title_line, variable_lines};
+ghost use Rattle.warp_world.specs.inner.Printing.{Adds, count_lines, title_line, variable_line, variable_lines};
 
 use crate::fault::ScheduleFault;
 use crate::schedule::read_schedule;
@@ -17,7 +18,7 @@ use std::alloc::Global;
 use warp_line::Timeline;
 use warp_record::{Query, REPLY_ROOM, Reply, write_reply};
 use warp_replica::{Replica, one_answer};
-use warp_step::Program;
+use warp_step::{Program, Variable};
 use warp_tag::OutOfMemory;
 
 /// What is printed of a schedule: for each replica, after all moves and settled, its number, its horizon, how many
@@ -61,7 +62,7 @@ fn append_replica<T: Timeline>(
 ) -> Result<(), OutOfMemory>
     requires { IsTrue (T.settled replica.now.timeline) }
     ensures { OnOk result ((a : Answers) × AreAnswers replica.now.program (set_of replica.now.records) a
-        × (text.new.items ≡ text.old.items ++ replica_lines number a)) }
+        × (text.new.items ≡ text.old.items ++ replica_lines replica.now.program number a)) }
 {
     // Each program has an origin and no log has a record twice, so that there are answers.
     replica.program().valid();
@@ -98,19 +99,45 @@ fn append_counts<T: Timeline>(text: &mut Vec<u8>, replica: &Replica<T>) -> Resul
     Ok(())
 }
 
-/// Appends a line for each variable of a settled replica.
+/// Appends a line for each variable of a settled replica that is told.
 fn append_variables<T: Timeline>(
     text: &mut Vec<u8>,
     replica: &Replica<T>,
 ) -> Result<(), OutOfMemory>
     requires { IsTrue (T.settled replica.now.timeline) }
     ensures { OnOk result
-        (Adds replica.now.program (set_of replica.now.records) variable_lines text.old.items text.new.items) }
+        (Adds replica.now.program (set_of replica.now.records) (variable_lines replica.now.program) text.old.items text.new.items) }
 {
     for number in 0..variable_count(replica.program()) {
-        append_answer(text, replica, Query::Var(number))?;
+        append_variable(text, replica, number)?;
     }
     Ok(())
+}
+
+/// Appends the line of this variable of a settled replica, where it is told.
+fn append_variable<T: Timeline>(
+    text: &mut Vec<u8>,
+    replica: &Replica<T>,
+    number: u32,
+) -> Result<(), OutOfMemory>
+    requires { IsTrue (T.settled replica.now.timeline) }
+    ensures { OnOk result (Adds replica.now.program (set_of replica.now.records)
+        (variable_line replica.now.program replica.now.records number) text.old.items text.new.items) }
+{
+    if is_told(replica.program().variables(), number) {
+        return append_answer(text, replica, Query::Var(number));
+    }
+    Ok(())
+}
+
+/// Whether the variable with this number is told.
+fn is_told(variables: &[Variable], number: u32) -> bool
+    ensures { result ≡ option_map_or (λ v. v.is_told) (slice_get variables.now number) false }
+{
+    match variables.get(number as usize) {
+        Some(variable) => variable.is_told,
+        None => false,
+    }
 }
 
 /// How many variables the program has.

@@ -7,7 +7,8 @@ use Rattle.clap.specs.declared.error.kind.ErrorKind.TheVariants as kind
 use Rattle.warp_tag.specs.Limits.{most_reads}
 use Rattle.warp_step.specs.Program.{Program as ReactorProgram}
 use Rattle.warp_step.specs.Twice.{twice}
-use Rattle.warp_prog.specs.Account.{account_text}
+use Rattle.warp_prog.specs.Account.{IsWorked, account_text}
+use Rattle.warp_prog.specs.declared.limits.work.Work.{Work}
 use Rattle.warp_prog.specs.Canonical.{IsCanonical}
 use Rattle.warp_prog.specs.Explain.{IsLabelled, Names}
 use Rattle.warp_prog.specs.Load.{IsLoaded, IsRefused}
@@ -203,21 +204,23 @@ IsPrinted text before after outcome =
 
 -- what an account tells by the options of `check`
 abbrev pub account_options : CheckOptions → AccountOptions
-account_options o = record { numbers = o.numbers; rows = o.rows; fingerprint = o.fingerprint; names = o.names }
+account_options o = record { numbers = o.numbers; rows = o.rows; work = o.work; fingerprint = o.fingerprint; names = o.names }
 
 -- a text tells of the program that these bytes spell what is in it, by the labels and the canonical text of the file, with what
 -- the options ask for
 abbrev pub IsToldOf : List ℕ → CheckOptions → List ℕ → Type 0
 IsToldOf bytes options text =
-    (P : ReactorProgram) × (names : Names) × (canonical : List ℕ) × IsLoaded bytes P × IsLabelled bytes names × IsCanonical bytes canonical
-    × (text ≡ account_text P names canonical (account_options options))
+    (P : ReactorProgram) × (names : Names) × (work : Work) × (canonical : List ℕ)
+    × IsLoaded bytes P × IsLabelled bytes names × IsWorked bytes work × IsCanonical bytes canonical
+    × (text ≡ account_text P names work canonical (account_options options))
 
 -- a text tells so of the program of this name: of `builtin:twice` by some names and some canonical text, or of that of some
 -- bytes, which were read of a file, by theirs
 abbrev pub IsTold : List ℕ → CheckOptions → List ℕ → Type 0
 IsTold name options text =
     (name ≡ codes "builtin:twice"
-    → (names : Names) × (canonical : List ℕ) × (text ≡ account_text twice names canonical (account_options options)))
+    → (names : Names) × (work : Work) × (canonical : List ℕ)
+    × (text ≡ account_text twice names work canonical (account_options options)))
     × (name ≢ codes "builtin:twice" → (bytes : List ℕ) × IsToldOf bytes options text)
 
 -- checking the program of this name ends so: what tells of it is printed; or where there is none, nothing is printed
@@ -361,6 +364,7 @@ trace_names labels = record {
   timers = labels.timers;
   actions = labels.actions;
   ports = labels.ports;
+  arrays = labels.arrays;
 }
 
 -- the program of this name: `builtin:twice`, of whose names nothing is said; or that of some bytes, which were read of

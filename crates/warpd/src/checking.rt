@@ -2,6 +2,7 @@
 ghost use Rattle.std.specs.Prelude.{◌≡◌, ◌⊎◌, ◌+◌, IfErr, IfOk, ℕ, List, string_bytes};
 ghost use Rattle.warp_step.specs.Twice.{twice};
 ghost use Rattle.warp_prog.specs.Account.{account_text};
+ghost use Rattle.warp_prog.specs.declared.limits.work.Work.{Work};
 ghost use Rattle.warp_prog.specs.Explain.{Names};
 ghost use Rattle.warp_prog.specs.Load.{IsLoaded, IsRefused};
 ghost use Rattle.warp_prog.specs.Reading.{longest_file};
@@ -54,6 +55,7 @@ fn account_options(options: CheckOptions) -> AccountOptions
     AccountOptions {
         numbers: options.numbers,
         rows: options.rows,
+        work: options.work,
         fingerprint: options.fingerprint,
         names: options.names,
     }
@@ -61,8 +63,8 @@ fn account_options(options: CheckOptions) -> AccountOptions
 
 /// What is told of the program `twice`, of which there is nothing to warn of.
 fn built_in_account(alloc: Global, options: CheckOptions) -> Result<String, Outcome>
-    ensures ok { IfOk result (λ text. (names : Names) × (canonical : List ℕ)
-        × (string_bytes text ≡ account_text twice names canonical (account_options options))) }
+    ensures ok { IfOk result (λ text. (names : Names) × (work : Work) × (canonical : List ℕ)
+        × (string_bytes text ≡ account_text twice names work canonical (account_options options))) }
     ensures err { IfErr result (λ outcome. outcome ≡ Outcome.Memory) }
 {
     let Ok(program) = Program::twice(alloc) else {
@@ -110,7 +112,7 @@ fn bytes_account(
 {
     match load_named(alloc, bytes) {
         Ok(named) => {
-            warn(alloc, bytes, &named.program, options, remark);
+            warn(alloc, bytes, &named, options, remark);
             match program_account(alloc, &named, account_options(options)) {
                 Ok(text) => Ok(text),
                 Err(_) => Err(refused(LoadError::Memory)),
@@ -124,12 +126,12 @@ fn bytes_account(
 fn warn(
     alloc: Global,
     bytes: &[u8],
-    program: &Program,
+    named: &NamedProgram,
     options: CheckOptions,
     remark: &mut String,
 ) {
     if options.rows {
-        add_remark(remark, rows_warning(alloc, program));
+        add_remark(remark, rows_warning(alloc, &named.program, &named.work));
     }
     if options.warnings {
         add_remark(remark, program_warnings(alloc, bytes));

@@ -218,6 +218,7 @@ pub(crate) fn version_of(form: Form) -> u32 {
         Form::One => 1,
         Form::Two => 2,
         Form::Three => 3,
+        Form::Four => 4,
     }
 }
 

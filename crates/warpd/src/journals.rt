@@ -164,6 +164,7 @@ fn form_of(first: &[u8]) -> Option<Form> {
         b"1 " => Some(Form::One),
         b"2 " => Some(Form::Two),
         b"3 " => Some(Form::Three),
+        b"4 " => Some(Form::Four),
         _ => None,
     }
 }

@@ -96,11 +96,13 @@ pub(crate) fn names_for_a_trace(labels: warp_prog::Labels) -> Labels
     let warp_prog::Labels {
         reactors: _,
         variables,
+        hidden: _,
+        arrays,
         ports,
         actions,
         timers,
         inputs,
         outputs,
     } = labels;
-    Labels::new(variables, inputs, outputs, timers, actions, ports)
+    Labels::new(variables, inputs, outputs, timers, actions, ports, arrays)
 }

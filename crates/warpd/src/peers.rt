@@ -128,7 +128,7 @@ fn words_for(end: PullEnd, form: Form) -> &'static str {
         PullEnd::Held(_) => "a record of its log does not come in here",
         PullEnd::Fault => "its connection failed, or it was silent for too long",
         PullEnd::End => "it closed its connection",
-        PullEnd::TooManyTurns if form == Form::Three => {
+        PullEnd::TooManyTurns if matches!(form, Form::Three | Form::Four) => {
             "100,000,000 questions and reads came to no end"
         }
         PullEnd::TooManyTurns => "1,000,000 questions and reads came to no end",

@@ -7,9 +7,9 @@ from typing import Optional, Union
 
 from . import refused, tree
 from .faults import nearest, port_of
-from .scope import CONSTANTS, EFFECTS, FUNCTIONS, STATEMENTS, TRIGGERS, Kind, Scope
+from .scope import CONSTANTS, EFFECTS, FUNCTIONS, ON_BITS, STATEMENTS, TRIGGERS, Kind, Scope
 from .tree import At
-from .types import INT, Type
+from .types import FIXED, INT, Array, Type
 
 
 # What stands for the old value where a value is changed.
@@ -106,6 +106,9 @@ class BodyCheck:
     def kind_of(self, name: str) -> Optional[Kind]:
         return self.lets[name].kind if name in self.lets else self.scope.kinds.get(name)
 
+    def type_of(self, name: str) -> Type:
+        return self.lets[name].type if name in self.lets else self.scope.types.get(name, INT)
+
     def reads(self, name: str, at: At) -> Type:
         """Checks a name whose value is wanted, and gives its type."""
         local, kind = self.lets.get(name), self.kind_of(name)
@@ -166,6 +169,8 @@ class BodyCheck:
                 self.statements(it.statements)
             case tree.Loop():
                 self.loop(it)
+            case tree.While():
+                self.while_loop(it)
             case tree.Leave():
                 self.leave(it)
 
@@ -182,17 +187,45 @@ class BodyCheck:
         else:
             self.lets[name.text] = Local(kind, type, name.at)
 
+    def bound(self, it: tree.Expression, is_free: bool) -> None:
+        """Checks a bound of a loop; a free one need not be constant."""
+        if is_free:
+            self.whole = None
+            self.scope.number(it, self)
+        else:
+            hint = "parameters and `const` are; or say how many turns there are at most: `for (..; ..; ..; most 100)`"
+            self.fixed_at_last(it, "the bounds of a loop are constant", hint)
+
+    def most(self, it: tree.Expression) -> None:
+        self.fixed_at_last(it, "how many turns a loop has at most is constant", "parameters and `const` are")
+
+    def while_loop(self, it: tree.While) -> None:
+        self.bound(it.test, is_free=True)
+        if it.most is None:
+            hint = "a body ends always: write how many turns there are at most, `while (..; most 100)`"
+            self.report.error(it.at, "this `while` has no bound", hint)
+        else:
+            self.most(it.most)
+        self.loops += 1
+        self.statements(it.body)
+        self.loops -= 1
+
     def loop(self, it: tree.Loop) -> None:
         name, before = it.first.name.text, set(self.lets)
-        text, hint = "the bounds of a loop are constant", "parameters and `const` are; put an `if` inside of the loop"
         if it.first.type and self.scope.named.get(it.first.type.text) != INT:
             self.report.error(it.first.type.at, f"`{it.first.type.text}`: turns are counted by an `int`")
-        self.fixed_at_last(it.first.value, text, hint)
-        self.declare(it.first.name, Kind.TURN, INT)
-        self.fixed_at_last(it.test, text, hint)
+        is_free = it.most is not None
+        self.bound(it.first.value, is_free)
+        # What is constant in each turn is no constant where turns are not counted beforehand.
+        self.declare(it.first.name, Kind.LET if is_free else Kind.TURN, INT)
+        if is_free:
+            self.lets[name].is_read = True
+        self.bound(it.test, is_free)
         if not isinstance(it.step.name, tree.Name) or it.step.name.text != name:
             self.report.error(it.step.name.at, f"here `{name}` is changed for the next turn", f"write `{name}++`")
-        self.fixed_at_last(it.step.value, text, hint)
+        self.bound(it.step.value, is_free)
+        if is_free:
+            self.most(it.most)
         self.loops += 1
         self.statements(it.body)
         self.loops -= 1
@@ -212,15 +245,20 @@ class BodyCheck:
             local = self.lets.get(it.text)
             return self.kind_of(it.text), local.type if local else self.scope.types.get(it.text, INT)
         owner = it.owner.text if it.owner else it.name.text
-        if it.index or it.owner_index:
-            self.scope.no_array(it, it.at)
+        if self.scope.is_tag(it):
+            self.report.error(it.at, f"`{it}` is the tag: it cannot be assigned")
             return Kind.TYPE, INT
         kind = self.kind_of(owner)
-        if kind is None:
-            self.report.error(it.at, *(text.format(owner) for text in refused.NO_INSTANCE))
+        if kind is None or it.indices and not it.owner and not isinstance(self.type_of(owner), Array):
+            if it.indices or it.owner_indices:
+                self.scope.no_array(it, it.at)
+            else:
+                self.report.error(it.at, *(text.format(owner) for text in refused.NO_INSTANCE))
             return Kind.TYPE, INT
+        if not it.owner:
+            return kind, self.scope.element(self.type_of(owner), it, it.indices, self)
         type = self.target(it.owner)[1]
-        return kind, self.scope.field(type, it) if kind in (Kind.VARIABLE, Kind.LET, Kind.GIVEN) else INT
+        return kind, self.scope.part(type, it, self) if kind in (Kind.VARIABLE, Kind.LET, Kind.GIVEN) else INT
 
     def assign(self, it: tree.Assign) -> None:
         kind, type = self.target(it.name)
@@ -232,15 +270,23 @@ class BodyCheck:
             **dict.fromkeys((Kind.TIMER, Kind.STARTUP, Kind.SHUTDOWN, Kind.ROUTINE), ""),
             **dict.fromkeys((*CONSTANTS, Kind.LET, Kind.GIVEN, Kind.TURN), "it is constant: take a state variable"),
         }
+        is_given = kind is Kind.GIVEN and isinstance(it.name, tree.Place) and isinstance(self.type_of(name), Array)
         if kind is None:
             self.scope.unknown(name, at, (Kind.VARIABLE, Kind.OUTPUT))
+        elif is_given:
+            kind = Kind.VARIABLE
+        elif it.operator and isinstance(type, Array):
+            self.report.error(at, f"`{name}` is an array: here belongs a number", f"a cell of it is one: `{name}[0]`")
+            type = type.of
         elif kind in hints:
             self.report.error(at, f"`{name}` is {kind.value}: it cannot be assigned", hints[kind])
         elif kind is Kind.OUTPUT and it.operator:
             self.reads(name, at)
         elif kind is Kind.OUTPUT:
             self.is_effect(name, at)
-        if it.operator:
+        if it.operator in ON_BITS and type == FIXED:
+            self.report.error(at, f"`{name}` is `fixed`: `{it.operator}` is of whole numbers")
+        elif it.operator:
             self.scope.of_type(tree.Binary(it.operator, ZERO, it.value, it.value.at), type, self)
         else:
             self.value(it.value, type if kind in (Kind.VARIABLE, Kind.OUTPUT) else None)
@@ -291,7 +337,7 @@ class BodyCheck:
         if self.scope.has_parts(it, len(routine.parameters), len(routine.parameters)):
             whole = self.whole
             for part, (_, wanted) in zip(it.parts, routine.parameters):
-                self.scope.of_type(part, wanted, self)
+                self.scope.handed(part, wanted, self)
             self.whole = whole
         self.scope.read.update(routine.reads)
         if is_value and routine.type is None:
@@ -310,7 +356,7 @@ class BodyCheck:
         if isinstance(first, tree.Member) and (first.place.index or first.place.owner_index):
             self.scope.no_array(first.place, first.at)
         elif not isinstance(first, tree.Reference):
-            self.report.error(first.at, f"here stands the name of {wanted.value}")
+            self.report.error(first.at, f"here belongs the name of {wanted.value}")
         elif kind is None:
             self.scope.unknown(first.name, first.at, (wanted,))
         elif kind is not wanted:

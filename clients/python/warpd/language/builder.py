@@ -8,6 +8,8 @@ from . import tree
 from .lexing import Word
 from .testing.building import TestBuilder
 
+# What needs version 4 where it is not worked out when the text is compiled: operators, and functions.
+BITS, WHOLE = {"&", "|", "^", "<<", ">>"}, {"mix", "muldiv"}
 UNITS = {
     "n": 1, "us": 10**3, "ms": 10**6, "s": 10**9, "mi": 60 * 10**9, "h": 3600 * 10**9, "d": 86_400 * 10**9,
     "w": 604_800 * 10**9,
@@ -22,7 +24,10 @@ def nanoseconds(text: str) -> int:
 
 
 class Builder(TestBuilder):
-    """Makes the parts of the tree, from the inside out."""
+    """Makes the parts of the tree, from the inside out. `may_need_later` says that something was made that only version 4
+    of program files has."""
+
+    may_need_later = False
 
     def file(self, target, *parts):
         def every(*kinds):
@@ -72,10 +77,19 @@ class Builder(TestBuilder):
     def mode(self, initial, word, name, *members):
         return tree.Mode(name, initial is not None, tuple(it for it in members if it))
 
-    def state(self, reset, name, type, value):
-        return tree.State(name, type, value, reset is not None)
+    def state(self, hidden, reset, name, type, value):
+        if hidden is not None:
+            self.may_need_later = True
+        return tree.State(name, type, value, reset is not None, hidden is not None)
+
+    def called(self, _word, text, member):
+        self.may_need_later = True
+        return dataclasses.replace(member, called=text.text[1:-1])
 
     def ports(self, attribute, origin, kind, width, places, type):
+        if isinstance(type, tree.Sized) and width is None and len(type.sides) == 1:
+            # An array on a port is a group of ports.
+            (width,), type = type.sides, tree.Name(type.text, type.at)
         return tree.Ports(origin, kind.kind == "INPUT", places, type, (attribute or kind).at, width)
 
     def action(self, name, arguments, type):
@@ -106,8 +120,12 @@ class Builder(TestBuilder):
     def broadcast(self, places, _plus):
         return places, True
 
-    def place(self, first, first_index, second, index):
-        return tree.Place(first, second, first_index, index) if second else tree.Place(None, first, None, first_index)
+    def place(self, first, first_indices, second, indices):
+        one, *ones = first_indices or (None,)
+        two, *twos = indices or (None,)
+        if second:
+            return tree.Place(first, second, one, two, owner_more=tuple(ones), more=tuple(twos))
+        return tree.Place(None, first, None, one, more=tuple(ones))
 
     def interleaved(self, place):
         return dataclasses.replace(place, is_interleaved=True)
@@ -118,7 +136,7 @@ class Builder(TestBuilder):
     def list_of(self, *parts):
         return parts
 
-    places = arguments = body = extends = list_of
+    places = arguments = body = extends = indices = list_of
 
     def index(self, value):
         return value
@@ -130,18 +148,30 @@ class Builder(TestBuilder):
         *reactors, path = parts
         return tree.Import(tuple(reactors), path.text[1:-1], path.at)
 
-    def target_(self, first, first_index, second, index):
-        place = self.place(first, first_index, second, index)
+    def target_(self, first, first_indices, second, indices):
+        place = self.place(first, first_indices, second, indices)
         return place.name if place.is_plain else place
 
-    def type(self, name):
-        return name
+    def type(self, name, *sides):
+        if not sides:
+            return name
+        self.may_need_later = True
+        return tree.Sized(name.text, name.at, sides)
+
+    def side(self, value):
+        return value
+
+    def list(self, word, *parts):
+        return tree.List(tuple(it for it in parts if it), word.at)
 
     def let(self, name, type, value):
         return tree.Let(name, type, value)
 
     def assign(self, name, operator, value):
-        return tree.Assign(name, operator.text[:-1] or None, value)
+        sign = operator.text[:-1]
+        if sign in BITS:
+            self.may_need_later = True
+        return tree.Assign(name, sign or None, value)
 
     def step(self, name, word):
         return tree.Assign(name, word.text[0], tree.Number("1", word.at))
@@ -152,8 +182,13 @@ class Builder(TestBuilder):
     def turn_of_c(self, type, name, value):
         return tree.Let(name, type, value)
 
-    def loop(self, word, first, test, step, body):
-        return tree.Loop(first, test, step, self._statements(body), word.at)
+    def loop(self, word, first, test, step, _most, most, body):
+        self.may_need_later |= most is not None
+        return tree.Loop(first, test, step, self._statements(body), word.at, most)
+
+    def while_loop(self, word, test, _most, most, body):
+        self.may_need_later = True
+        return tree.While(test, most, self._statements(body), word.at)
 
     def leave(self, word, value=None):
         return tree.Leave(word.text, value, word.at)
@@ -176,9 +211,13 @@ class Builder(TestBuilder):
         return tree.Choice(test, yes, no, test.at.to(no.at))
 
     def binary(self, left, operator, right):
+        if operator.text in BITS:
+            self.may_need_later = True
         return tree.Binary(operator.text, left, right, left.at.to(right.at))
 
     def unary(self, operator, part):
+        if operator.text == "~":
+            self.may_need_later = True
         return tree.Unary(operator.text, part, operator.at.to(part.at))
 
     def number(self, token):
@@ -190,9 +229,15 @@ class Builder(TestBuilder):
     def truth(self, token):
         return tree.Number("1" if token.text == "true" else "0", token.at)
 
-    def reference(self, first, first_index, second, index):
-        place = self.place(first, first_index, second, index)
-        return tree.Reference(first.text, first.at) if place.is_plain else tree.Member(place, place.at)
+    def reference(self, first, first_indices, second, indices):
+        place = self.place(first, first_indices, second, indices)
+        if place.is_plain:
+            return tree.Reference(first.text, first.at)
+        if place.owner and first.text == "lf":
+            self.may_need_later = True
+        return tree.Member(place, place.at)
 
     def call(self, name, parts):
+        if name.text in WHOLE:
+            self.may_need_later = True
         return tree.Call(name, parts or (), name.at.to(parts[-1].at) if parts else name.at)

@@ -10,10 +10,11 @@ from collections.abc import Callable, Iterable
 
 from . import tree
 from .faults import Report
-from .instances import MOST
+from .instances import MOST, MOST_LATER
 from .model import Instance, Link, Port, Program, joined
 from .reactors import checked, declared
 from .scope import Kind
+from .values import lists_of
 
 SHUTDOWN, ENDED, REQUEST = "shutdown", "ended", "request_stop"
 
@@ -21,13 +22,15 @@ SHUTDOWN, ENDED, REQUEST = "shutdown", "ended", "request_stop"
 def changed(statements: Iterable[list], change: Callable[[list], list]) -> list:
     """The statements with what each of them, that is no `if`, becomes."""
     return [
-        ["if", it[1], changed(it[2], change), changed(it[3], change)] if it[0] == "if" else change(it)
+        [*it[:len(it) - len(inner)], *(changed(each, change) for each in inner)] if (inner := lists_of(it)) else change(it)
         for it in statements
     ]
 
 
 def has(statements: Iterable[list], test: Callable[[list], bool]) -> bool:
-    return any(has(it[2], test) or has(it[3], test) if it[0] == "if" else test(it) for it in statements)
+    return any(
+        any(has(each, test) for each in inner) if (inner := lists_of(it)) else test(it) for it in statements
+    )
 
 
 class Ending:
@@ -46,7 +49,8 @@ class Ending:
         late = {it.name: [each for each in _reactions(it) if self._is_late(it, each)] for it in self.instances}
         concerned = [it for it in self.instances if late[it.name] or self._listens(it) or self._cuts(it)]
         timers = sum(len(it.reactor.get("timers", ())) for it in self.instances)
-        is_sent = self.asking or concerned and timers + len(concerned) > MOST["timers"]
+        most = (MOST_LATER if self.program.is_later else MOST)["timers"]
+        is_sent = self.asking or concerned and timers + len(concerned) > most
         for it in concerned:
             self._take(it, is_sent)
             self._cut(it)
@@ -93,7 +97,7 @@ class Ending:
 
     def _name(self, it: Instance, name: str) -> str:
         """A name that the reactor has not."""
-        taken = {*it.of.scope.kinds, *(each for key in ("vars", "inputs", "outputs") for each in _names(it, key))}
+        taken = {*it.of.scope.kinds, *(each for key in ("vars", "arrays", "inputs", "outputs") for each in _names(it, key))}
         while name in taken and it.of.scope.kinds.get(name) is not Kind.SHUTDOWN:
             name += "_"
         return name
@@ -163,7 +167,7 @@ class Ending:
         return Port(it.name, name)
 
 
-REACTOR = ("name", "vars", "inputs", "outputs", "actions", "timers", "reactions")
+REACTOR = ("name", "vars", "arrays", "inputs", "outputs", "actions", "timers", "reactions")
 
 
 def _add(to: dict, key: str, entry, order: tuple[str, ...] = REACTOR) -> None:

@@ -74,6 +74,15 @@ class Report:
         again = f"; so it is at {more} more place{'s' * (more > 1)}" if more else ""
         self.faults[number] = Fault(first.at, "error", first.text, hint + again)
 
+    def mark(self) -> tuple[list[Fault], int, dict]:
+        """What is told by now."""
+        return [*self.faults], self.errors, {key: (number, {*places}) for key, (number, places) in self.alike.items()}
+
+    def back_to(self, mark: tuple[list[Fault], int, dict]) -> None:
+        """Forgets what was told behind a mark, or tells it again."""
+        self.faults, self.errors, self.alike = [*mark[0]], mark[1], dict(mark[2])
+        self.told = set(self.faults)
+
     def forget(self, count: int) -> None:
         """Forgets what was told behind the first `count` faults."""
         del self.faults[count:]

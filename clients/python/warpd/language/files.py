@@ -5,7 +5,7 @@ from __future__ import annotations
 import json
 from collections.abc import Mapping
 
-from .writing import form_of
+from .writing import form_of, own_names
 
 NUMBERS, LISTS = ("version", "stop", "origins"), ("links", "inputs", "outputs")
 
@@ -32,7 +32,7 @@ def shown_names(names: Mapping) -> str:
 def same(first: Mapping, second: Mapping) -> bool:
     """Whether two program files are the same program, with all numbers."""
     def plain(program: Mapping) -> list:
-        reactors = [(it["name"], form_of(it)) for it in program["reactors"]]
+        reactors = [(it["name"], form_of(it), own_names(it)) for it in program["reactors"]]
         return [reactors, *(program[key] for key in NUMBERS), *(program.get(key, []) for key in LISTS)]
 
     return plain(first) == plain(second)

@@ -79,7 +79,7 @@ class Flattening:
         found = {id(it): name for name, it in names.items()}
         for it in nodes:
             name = found[id(it)]
-            it.flat = Instance(name, it.form, it.constants, it.at, it.title or name)
+            it.flat = Instance(name, it.form, it.constants, it.at, it.title or name, called=it.called, is_called=bool(it.called))
             self.program.instances[name] = it.flat
 
     def _is_left(self, node: Node) -> bool:

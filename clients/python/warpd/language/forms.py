@@ -195,6 +195,7 @@ class Form:
 
     def _is_right(self, place: tree.Place, inner: Kind) -> bool:
         """Whether a place of a body names one port; else that is told."""
+        self.places.has_one_index(place)
         node, owner, name = self.node, place.owner, place.name
         if owner and (owner.text in node.widths) != (place.owner_index is not None):
             self._index(owner, place.owner_index, node.widths.get(owner.text), "a bank", "an instance")

@@ -2,15 +2,16 @@
 
 from __future__ import annotations
 
-from typing import Optional
+from dataclasses import replace
+from typing import Optional, Union
 
 from . import tree
 from .faults import Report, nearest
-from .model import Program, ranged
+from .model import LIMITS, Program, ranged
 from .routines import RoutineCheck, declared
 from .scope import Kind, Scope
-from .types import INT, Struct, Type
-from .values import wrapped
+from .types import INT, Array, Struct, Type
+from .values import Cells, wrapped
 
 PROPERTIES = ("stop", "timeout", "unit", "origins", "version", "microsteps_at_stop")
 
@@ -26,8 +27,10 @@ class Head:
         self._target()
         self.program.scope = Scope(self.report, self.program.unit)
         before = self.report.errors
-        self._types()
+        structs = self._types()
         self._constants()
+        for it, made in structs:
+            self._struct(it, made)
         for routine in declared(self.file.functions, self.program.scope):
             RoutineCheck(self.program.scope, routine).check()
         can_be_read = all(it.body is not None for it in self.file.functions)
@@ -52,7 +55,8 @@ class Head:
         if not stop and self.report.errors == before:
             hint = "write `target warpd { stop: 100 }`: the last time that is executed"
             self.report.error(self.file.at, "the program has no stop", hint)
-        program.version = self._number("version", 2, 1, 3)
+        program.is_stated = "version" in self.found
+        program.version = self._number("version", program.version, 1, max(LIMITS))
         if stop:
             it = stop.value
             program.stop = program.ranged(self.report, self._value(it), "stop", it.at, f"`{stop.name.text}`")
@@ -86,15 +90,18 @@ class Head:
     def _constants(self) -> None:
         for it in self.file.constants:
             scope, constants = self.program.scope, self.program.constants
-            wanted = scope.type(it.type) if it.type else None
+            wanted = scope.type(it.type, is_array=True) if it.type else None
             value = self.program.constant(scope, it.value, constants, wanted)
+            if isinstance(wanted, Array):
+                value = replace(value or Cells("", (1,) * len(wanted.sides), (0,)), name=it.name.text)
             if wanted is None and value is not None:
                 wanted = scope.number(it.value, None)
             scope.declare(it.name, Kind.CONSTANT, wanted or INT)
             constants.setdefault(it.name.text, value or 0)
 
-    def _types(self) -> None:
-        scope = self.program.scope
+    def _types(self) -> list[tuple[tree.Struct, Struct]]:
+        """Takes enums in, and the names of structs, whose fields may ask for constants; gives these."""
+        scope, structs = self.program.scope, []
         for it in self.file.types:
             known = scope.named.get(it.name.text)
             if known is not None:
@@ -103,7 +110,9 @@ class Head:
                 scope.named[it.name.text] = INT
                 self._enum(it)
             else:
-                scope.named[it.name.text] = self._struct(it)
+                scope.named[it.name.text] = made = Struct(it.name.text, {}, {})
+                structs.append((it, made))
+        return structs
 
     def _enum(self, it: tree.Enum) -> None:
         """Each name is a constant, one more than the one before it where no value stands."""
@@ -114,15 +123,21 @@ class Head:
             self.program.scope.declare(part.name, Kind.CONSTANT)
             self.program.constants.setdefault(part.name.text, value)
 
-    def _struct(self, it: tree.Struct) -> Struct:
-        fields: dict[str, Type] = {}
-        starts: dict[str, int] = {}
+    def _struct(self, it: tree.Struct, made: Struct) -> None:
+        fields, starts = made.fields, made.starts
         for field in it.fields:
             name = field.name.text
             if name in fields:
                 self.report.error(field.name.at, f"`{name}` stands twice")
-            fields[name] = self.program.scope.type(field.type)
-            value = field.start and self.program.constant(
-                self.program.scope, field.start, self.program.constants, fields[name])
-            starts[name] = value or 0
-        return Struct(it.name.text, fields, starts)
+            fields[name] = self.program.scope.type(field.type, is_array=True)
+            before = self.report.errors
+            if field.start:
+                self.program.scope.constant(field.start, fields[name])
+            starts[name] = self._start(field, fields[name]) if self.report.errors == before else 0
+
+    def _start(self, field: tree.State, type: Type) -> Union[int, tuple[int, ...]]:
+        """What a field begins with."""
+        names, scope = self.program.constants, self.program.scope
+        if isinstance(type, Array):
+            return self.program.started(field.start, type, names, scope, field.name.at).values
+        return self.program.lowered(field.start, names, scope, type) if field.start else 0

@@ -3,7 +3,7 @@
 from __future__ import annotations
 
 from collections.abc import Iterator, Mapping
-from dataclasses import dataclass, field
+from dataclasses import dataclass, field, replace
 from functools import cached_property
 from typing import TYPE_CHECKING, Optional
 
@@ -13,7 +13,8 @@ from .model import Class, Instance, Program, ranged
 from .scope import Kind, Scope
 from .sources import Sources
 from .tree import At
-from .types import INT
+from .types import INT, Array
+from .values import Cells
 
 if TYPE_CHECKING:
     from .places import Point
@@ -40,6 +41,8 @@ class Node:
     heard: dict[str, Point] = field(default_factory=dict)
     fed: dict[str, Point] = field(default_factory=dict)
     flat: Optional[Instance] = None
+    # How the text says that it is told of; of a bank nothing says so.
+    called: str = ""
 
     @property
     def title(self) -> str:
@@ -141,7 +144,7 @@ class Hierarchy:
                 return
             given = self._given(node, it, raw, number if it.width else None)
             constants = self._constants(raw, given, it.name.at)
-            part = Node((*node.path, name + label), raw, constants, it.name.at)
+            part = Node((*node.path, name + label), raw, constants, it.name.at, called=it.called and it.called + label)
             node.parts[name].append(part)
             self._fill(part, (*around, raw))
 
@@ -175,13 +178,16 @@ class Hierarchy:
                 self._unnamed(argument, parameters[place:place + 1])
                 continue
             name, at = argument.name.text, argument.name.at
-            value = self.program.constant(scope, argument.value, names, of.scope.types.get(name, INT))
+            wanted = of.scope.types.get(name, INT)
+            value = self.program.constant(scope, argument.value, names, wanted)
+            if value is None and isinstance(wanted, Array):
+                value = Cells(name, (1,) * len(wanted.sides), (0,))
             if name in given:
                 self.report.error(at, f"`{name}` stands twice")
             elif name not in parameters and is_known:
                 hint = nearest(name, parameters) or f"it has {listed(parameters) if parameters else 'none'}"
                 self.report.error(at, f"{of.name} has no parameter `{name}`", hint)
-            given[name] = value or 0
+            given[name] = replace(value, name=name) if isinstance(value, Cells) else value or 0
         if index is not None and INDEX in parameters:
             given.setdefault(INDEX, index)
         return given
@@ -203,5 +209,8 @@ class Hierarchy:
             if name not in given:
                 its = of.scope.types[name]
                 is_good = of.is_good and it.default
-                names[name] = self.program.lowered(it.default, names, of.scope, its) if is_good else int(not is_strict)
+                made = self.program.lowered(it.default, names, of.scope, its) if is_good else int(not is_strict)
+                if isinstance(its, Array):
+                    made = replace(made, name=name) if is_good else Cells(name, (1,) * len(its.sides), (0,))
+                names[name] = made
         return names

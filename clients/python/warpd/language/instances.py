@@ -2,26 +2,35 @@
 
 from __future__ import annotations
 
-from collections import Counter
+from collections import ChainMap, Counter
 from collections.abc import Collection, Mapping
-from typing import Optional
+from dataclasses import replace
+from typing import Optional, Union
 
 from . import tree
+from .arrays import MOST_ARRAYS, MOST_CELLS
 from .faults import Report, listed
-from .model import Instance, Program
-from .scope import count_of
+from .model import Instance, Program, joined, ranged
+from .scope import Kind, count_of, is_name
 from .statements import MOST_TURNS, Body, TooMany
 from .tree import At
-from .types import INT, Struct, Type
-from .values import depth, depth_of_list, schedules
+from .types import INT, Array, Struct, Type
+from .values import Cells, depth, depth_of_list, schedules, work
 
 MOST_DEPTH, MOST_SCHEDULES = 24, 16
 MOST = {
     "reactors": 64, "variables": 256, "ports": 256, "reactions": 256, "actions": 64, "timers": 16,
-    "connections": 256, "program inputs": 64, "program outputs": 64,
+    "connections": 256, "program inputs": 64, "program outputs": 64, "arrays": 0,
 }
+# The same in version 4.
+MOST_LATER = {
+    "reactors": 256, "variables": 1_024, "ports": 1_024, "reactions": 1_024, "actions": 256, "timers": 64,
+    "connections": 1_024, "program inputs": 256, "program outputs": 256, "arrays": MOST_ARRAYS,
+}
+# How much work all reactions may be together in version 4, and one loop's turns.
+MOST_WORK, MOST_TURNS_OF_ONE = 2_000_000, 65_536
 PARTS = {
-    "variables": ("vars",), "ports": ("inputs", "outputs"), "reactions": ("reactions",), "actions": ("actions",),
+    "variables": ("vars",), "arrays": ("arrays",), "ports": ("inputs", "outputs"), "reactions": ("reactions",), "actions": ("actions",),
     "timers": ("timers",),
 }
 
@@ -32,12 +41,19 @@ class Writer:
     def __init__(self, it: Instance, program: Program, report: Report):
         self.it, self.program, self.report = it, program, report
         self.kept: list[str] = []
+        # The arrays of its state, and the constant ones whose cells are asked for by an index that is worked out.
+        self.cells: dict[str, Cells] = {}
+        self.asked: dict[str, Cells] = {}
+        self.constants: dict[str, Union[int, Cells]] = {}
 
     def frame(self) -> None:
         """Writes all but the bodies."""
         it, every = self.it, self.it.of.tree.every
+        self.constants = self._constants()
+        states = [start for each in every(tree.State) for start in self._starts(each)]
         lists = {
-            "vars": [start for each in every(tree.State) for start in self._starts(each)],
+            "vars": [start for start in states if len(start) == 2],
+            "arrays": [start for start in states if len(start) == 3],
             "inputs": list(map(it.of.file_name, it.of.names(True))),
             "outputs": list(map(it.of.file_name, it.of.names(False))),
             "actions": [[each.name.text, *self._times(each, "the delay")] for each in every(tree.Action)],
@@ -53,18 +69,51 @@ class Writer:
             body = self._body(reaction)
             written.update({"body": body} if body else {})
         it.kept = len(self.kept)
-        if self.kept:
+        it.sides = {name: cells.sides for name, cells in {**self.cells, **self.asked}.items()}
+        if self.kept or self.asked:
             variables = it.reactor.get("vars", []) + [[name, 0] for name in self.kept]
-            it.reactor = {"name": it.name, "vars": variables, **{key: value for key, value in it.reactor.items() if key != "vars"}}
+            tables = [[name, cells.count, [*cells.values]] for name, cells in self.asked.items()]
+            lists = {"vars": variables, "arrays": it.reactor.get("arrays", []) + tables}
+            rest = {key: value for key, value in it.reactor.items() if key not in ("name", *lists)}
+            it.reactor = {"name": it.name, **{key: value for key, value in lists.items() if value}, **rest}
 
     def _starts(self, it: tree.State) -> list[list]:
-        """The variables of a state, each with its start; of a struct one for each field."""
-        name = it.name.text
-        type = self.it.of.scope.types[name]
-        if not isinstance(type, Struct):
-            return [[name, self._constant(it.start, type)]]
-        given = self._constant(it.start, type) if it.start else type.starts
-        return [[variable, given[field]] for field, variable in self.it.of.scope.fields[name].items()]
+        """The variables of a state, each with its start; of a struct one for each field. An array has its count too."""
+        scope, name = self.it.of.scope, it.name.text
+        type = scope.types[name]
+        is_array, of = isinstance(type, Array), type.of if isinstance(type, Array) else type
+        if not isinstance(of, Struct):
+            return [self._array(name, type, it.start) if is_array else [name, self._constant(it.start, type)]]
+        given = self._constant(it.start, type) if it.start and not is_array else of.starts
+        found = []
+        for field, variable in scope.fields[name].items():
+            its = scope.types[variable]
+            if isinstance(its, Array):
+                found.append(self._array(variable, its, None, given[field]))
+            else:
+                found.append([variable, given[field]])
+        return found
+
+    def _array(self, name: str, type: Array, start: Optional[tree.Expression], given: Union[int, tuple] = 0) -> list:
+        """An array as the program file has it. `given` is what each begins with where no start stands."""
+        it = self.program.started(start, type, self.it.constants, self.it.of.scope, self.it.of.scope.places[name])
+        self.cells[name] = cells = Cells(name, it.sides)
+        values = given if start is None else it.values
+        if isinstance(values, tuple) and start is None:
+            # Of an array in each struct of an array: in each the same.
+            each = it.sides[-1]
+            values = (values + (0,) * (each - len(values))) * (cells.count // each) if it.sides[1:] else values
+        return [name, cells.count, values if isinstance(values, int) else [*values]]
+
+    def _constants(self) -> dict[str, Union[int, Cells]]:
+        """The constants of the instance, arrays with names that a program file takes and the reactor has not."""
+        found, taken = dict(self.it.constants), ChainMap({}, self.it.of.scope.kinds)
+        for name, value in found.items():
+            if isinstance(value, Cells):
+                flat = name if is_name(name) else joined([name.lstrip("_") or "array"], taken)
+                taken[flat] = Kind.CONSTANT
+                found[name] = replace(value, name=flat)
+        return found
 
     def _constant(self, it: Optional[tree.Expression], wanted: Type = INT) -> int:
         return self.program.lowered(it, self.it.constants, self.it.of.scope, wanted) if it else 0
@@ -95,16 +144,24 @@ class Writer:
     def _body(self, reaction: tree.Reaction) -> list:
         of, scope = self.it.of, self.it.of.scope
         ports = {name: of.file_name(name) for name in of.names(True) + of.names(False)}
-        names = {**self.it.constants, **scope.fields, **ports}
+        fields = scope.fields
+        if self.cells:
+            fields = {name: {field: self.cells.get(it, it) for field, it in its.items()} for name, its in fields.items()}
+        names = {**self.constants, **fields, **ports, **self.cells}
         outputs = {ports[name] for name in of.names(False)}
-        body = Body(names, scope.types, self.program.unit or 1, scope.named, scope.routines, outputs, self.program.bodies)
+        body = Body(
+            names, scope.types, self.program.unit or 1, scope.named, scope.routines, outputs, self.program.bodies,
+            self.report, self.program.is_later)
+        body.asked = self.asked
         statements = []
         try:
             statements = body.made(reaction.body or (), self._variable, reaction.at)
         except TooMany as loop:
+            self.program.needs_later()
             self.program.bodies.left = body.left
-            text = f"the loops of this reaction have more than {MOST_TURNS} turns together"
-            self.report.error(loop.at, text, "a loop is written out, turn by turn; what goes on is an action")
+            self._too_many(loop)
+        for at, most in body.mosts:
+            ranged(self.report, most, 1, MOST_TURNS_OF_ONE, at, "how many turns a loop has at most")
         for at, value in body.values:
             if depth(value) > MOST_DEPTH:
                 text = f"this expression is {depth(value)} deep: {MOST_DEPTH} is allowed"
@@ -113,6 +170,16 @@ class Writer:
             self._time(delay, at, "the delay")
         self._body_limits(reaction.at, statements)
         return statements
+
+    def _too_many(self, loop: TooMany) -> None:
+        if loop.is_free:
+            text = "how many turns this loop has at most depends on too many turns of those around it"
+            self.report.error(loop.at, text, "say it: `for (..; ..; ..; most 100)`")
+        elif self.program.is_later:
+            self.report.error(loop.at, f"this loop has more than {MOST_TURNS_OF_ONE} turns", "what goes on is an action")
+        else:
+            text = f"the loops of this reaction have more than {MOST_TURNS} turns together"
+            self.report.error(loop.at, text, "a loop is written out, turn by turn; what goes on is an action")
 
     def _body_limits(self, at: At, statements: list) -> None:
         deep, wishes = depth_of_list(statements), schedules(statements)
@@ -127,19 +194,54 @@ def check_limits(program: Program, report: Report) -> None:
     """Tells what the whole program has too much of."""
     if not program.instances:
         report.error(program.at, "the program has no reactor", "make an instance in main: `p = new Player();`")
+    most = _most(program)
     for what, each in _members(program).items():
-        if sum(each.values()) > MOST[what]:
+        if sum(each.values()) > most[what]:
+            program.needs_later()
             _too_many(program, report, what, each)
     for what, places in _lists(program).items():
-        if len(places) > MOST[what]:
-            report.error([*places][MOST[what]].at, f"{len(places)} {what}, {MOST[what]} are allowed")
+        if len(places) > most[what]:
+            program.needs_later()
+            text = f"{len(places)} {what}, {most[what]} are allowed"
+            report.error([*places][most[what]].at, text, _later_hint(program, what, len(places)))
+    if program.is_later:
+        _check_later(program, report)
+
+
+def _most(program: Program) -> dict[str, int]:
+    return MOST_LATER if program.is_later else MOST
+
+
+def _check_later(program: Program, report: Report) -> None:
+    """Tells what the bodies and arrays of a program of version 4 have too much of."""
+    total, reached = 0, None
+    for it in program.instances.values():
+        total += sum(count for _, count, _ in it.reactor.get("arrays", ()))
+        if total > MOST_CELLS:
+            reached = reached or it
+    if reached:
+        report.error(reached.at, f"the arrays have {total} cells, {MOST_CELLS} are allowed together")
+    works = [
+        (work(each.get("body", ())), it, number) for it in program.instances.values()
+        for number, each in enumerate(it.reactor.get("reactions", ()))
+    ]
+    total = sum(it for it, *_ in works)
+    if total > MOST_WORK:
+        most, it, number = max(works, key=lambda it: it[0])
+        checks = it.of.reactions
+        at = checks[number].reaction.at if number < len(checks) else it.at
+        text = f"all reactions are {total} of work at one tag, {MOST_WORK} are allowed: this one of `{it.title}` {most}"
+        report.error(at, text, "each number, name and operator counts, in a loop as often as it may turn: take a smaller `most`")
 
 
 def has_too_much(program: Program) -> bool:
     """Whether so much is too much that bodies need not be written: of a few variables too many those are told that bodies take."""
     counts = {what: sum(each.values()) for what, each in _members(program).items()}
     counts.update((what, len(places)) for what, places in _lists(program).items())
-    return any(count > MOST[what] * (4 if what == "variables" else 1) for what, count in counts.items())
+    most = _most(program)
+    if any(count > most[what] for what, count in counts.items()):
+        program.needs_later()
+    return any(count > most[what] * (4 if what == "variables" else 1) for what, count in counts.items())
 
 
 def _members(program: Program) -> dict[str, dict[str, int]]:
@@ -158,18 +260,24 @@ def _lists(program: Program) -> dict[str, Collection]:
 
 def _too_many(program: Program, report: Report, what: str, each: Mapping[str, int]) -> None:
     """Told at the instance that passes the limit, with what the instances of each reactor have."""
-    total = 0
+    total, most = 0, _most(program)[what]
     for name, number in each.items():
         total += number
-        if total > MOST[what]:
+        if total > most:
             break
     parts = []
     shares = Counter(_share(program.instances[it], number, what) for it, number in each.items())
     for (of, number, kept), count in shares.items():
         has = f"{count_of(count, 'instance')} of {of} {'has' if count == 1 else 'have'} {number}{' each' * (count > 1)}"
         parts.append(has + f" ({kept} for what the compiler keeps)" * (kept > 0))
-    text = f"{sum(each.values())} {what}, {MOST[what]} are allowed: {listed(parts)}"
-    report.error(program.instances[name].at, text)
+    total = sum(each.values())
+    text = f"{total} {what}, {most} are allowed: {listed(parts)}"
+    report.error(program.instances[name].at, text, _later_hint(program, what, total))
+
+
+def _later_hint(program: Program, what: str, count: int) -> str:
+    """What to write where version 4 takes so many."""
+    return "" if program.is_later or count > MOST_LATER[what] else f"leave `version: {program.version}` out: version 4 has {MOST_LATER[what]}"
 
 
 def _share(it: Instance, number: int, what: str) -> tuple[str, int, int]:

@@ -13,7 +13,7 @@ from heapq import heappop, heappush
 from typing import NamedTuple, Optional, Union
 
 from .tree import At
-from .values import Cell, Parts, Temp, TooLarge, Value
+from .values import SIMPLE, Cell, Parts, Temp, TooLarge, Value
 
 # What has at most so many parts is put in at each of several uses, and what is at most so deep is put in at all: half
 # of the depth that a program file allows, so that an expression can be cut in two by a `let`.
@@ -22,13 +22,14 @@ SMALL, DEEP = 8, 12
 
 @dataclass(eq=False)
 class Step:
-    """`set`, `put` or `schedule`, the last with its delay."""
+    """`set`, `put` or `schedule`, the last with its delay; or `setat` with the place in the array."""
 
     word: str
     target: Union[str, Cell]
     value: Value
     at: At
     delay: int = 0
+    place: Value = 0
 
 
 @dataclass(eq=False)
@@ -40,13 +41,23 @@ class Fork:
 
 
 @dataclass(eq=False)
+class Repeat:
+    """A loop of the program file."""
+
+    most: int
+    test: Value
+    body: list
+    at: At
+
+
+@dataclass(eq=False)
 class Keep:
     """The place where a value is worked out."""
 
     temp: Temp
 
 
-Statement = Union[Step, Fork, Keep]
+Statement = Union[Step, Fork, Repeat, Keep]
 Way = tuple[tuple[int, bool], ...]
 
 
@@ -100,7 +111,7 @@ def parts_of(value: Value) -> tuple[list[tuple[Union[str, Temp, Cell], int]], in
         size += 1
         most = max(most, deep)
         if isinstance(it, list):
-            if it[0] != "present":
+            if it[0] not in SIMPLE:
                 rest += [(part, deep + 1) for part in it[1:]]
         elif not isinstance(it, int):
             found.append((it, deep))
@@ -110,9 +121,11 @@ def parts_of(value: Value) -> tuple[list[tuple[Union[str, Temp, Cell], int]], in
 class Keeper:
     """Decides for one body what is kept, and writes its statements. `values` has each expression with its place."""
 
-    def __init__(self, body: list[Statement], variable: Callable[[int], str], parts: Parts, at: At):
+    def __init__(self, body: list[Statement], variable: Callable[[int], str], parts: Parts, at: At, clears: bool = False):
         """`variable` names the compiler's variable with this number, from 0. The work is counted among the `parts`, eight steps for one;
-        what is too much is told at the body's place."""
+        what is too much is told at the body's place. `clears` says that each of these variables is 0 behind the body, so that no
+        state differs from another by what nobody reads."""
+        self.clears = clears
         self.body, self.variable, self.parts, self.at = body, variable, parts, at
         self.steps = 8 * max(parts.left, 0)
         self.lives: dict[Temp, Life] = {}
@@ -123,6 +136,8 @@ class Keeper:
         self.put_in: dict[Temp, Value] = {}
         self.values: list[tuple[At, Value]] = []
         self.count = 0
+        # Where each loop begins and ends, the outer one before the inner ones, and in which branches it stands.
+        self.loops: list[tuple[int, int, Way]] = []
 
     def statements(self) -> list:
         self._look(self.body, ())
@@ -130,7 +145,8 @@ class Keeper:
             self._choose()
         self._share()
         self.parts.left = self.steps // 8
-        return self._written(self.body)
+        made = self._written(self.body)
+        return made + [["set", name, 0] for name in dict.fromkeys(self.slots.values()) if self.clears]
 
     def _step(self, count: int) -> None:
         self.steps -= count
@@ -148,9 +164,17 @@ class Keeper:
                 self.lives[it.temp] = Life(it.temp, place)
             elif isinstance(it, Step):
                 self._use(it.value, place)
-                if it.word == "set":
+                if it.word in ("set", "setat"):
+                    self._use(it.place, place)
                     self.changes.setdefault(it.target, []).append(place)
                     self._span(it.target, place)
+            elif isinstance(it, Repeat):
+                number = len(self.loops)
+                self.loops.append((place.number, 0, way))
+                self._use(it.test, place)
+                self._look(it.body, way)
+                self.count += 1
+                self.loops[number] = place.number, self.count, way
             else:
                 self._use(it.test, place)
                 self._look(it.yes, (*way, (place.number, True)))
@@ -166,6 +190,14 @@ class Keeper:
     def _span(self, it: Union[str, Cell], place: Place) -> None:
         if isinstance(it, Cell):
             self.spans.setdefault(it, [place.number, place.number])[1] = place.number
+
+    def _behind(self, first: int, number: int) -> Optional[tuple[Way, int]]:
+        """The end of the outermost loop around a place that begins behind another place: what is known there is asked
+        for in each turn."""
+        for begin, end, way in self.loops:
+            if first < begin <= number <= end:
+                return way, end
+        return None
 
     # What is kept.
 
@@ -208,6 +240,7 @@ class Keeper:
         for temp, life in self.lives.items():
             places = self.direct.get(temp, ())
             life.uses, life.is_used_again = last_uses(places), len(places) > 1
+            self._again(life, life.uses)
         for temp in reversed(self.lives):
             life = self.lives[temp]
             if not life.uses:
@@ -222,6 +255,16 @@ class Keeper:
                     self._step(len(more))
                     for way, number in more.items():
                         inner.uses[way] = max(number, inner.uses.get(way, 0))
+                    self._again(inner, more)
+
+    def _again(self, life: Life, uses: dict[Way, int]) -> None:
+        """Adds the ends of loops in which a value of a place before them is used: it is so in each turn."""
+        for number in [*uses.values()] if self.loops else ():
+            found = self._behind(life.place.number, number)
+            if found:
+                way, end = found
+                life.uses[way] = max(end, life.uses.get(way, 0))
+                life.is_used_again = True
 
     def _measure_all(self, kept: Optional[set[Temp]]) -> None:
         """Works out, from the first value on, what each reads and how large it is, and keeps these values and large
@@ -267,6 +310,9 @@ class Keeper:
             for it, _ in life.parts:
                 if isinstance(it, Cell) and life.uses:
                     spans[it][1] = max(spans[it][1], life.place.number if life.is_kept else last)
+        for span in spans.values() if self.loops else ():
+            found = self._behind(*span)
+            span[1] = found[1] if found else span[1]
         return sorted([*alive, *((*span, it) for it, span in spans.items())], key=lambda it: it[:2])
 
     def _slots_needed(self) -> int:
@@ -300,9 +346,12 @@ class Keeper:
             elif isinstance(it, Fork):
                 test = self._value(it.test, it.at)
                 found.append(["if", test, self._written(it.yes), self._written(it.no)])
+            elif isinstance(it, Repeat):
+                test = self._value(it.test, it.at)
+                found.append(["while", it.most, test, self._written(it.body)])
             else:
                 target = self.slots[it.target] if isinstance(it.target, Cell) else it.target
-                delay = [it.delay] * (it.word == "schedule")
+                delay = [it.delay] if it.word == "schedule" else [self._value(it.place, it.at)] if it.word == "setat" else []
                 found.append([it.word, target, *delay, self._value(it.value, it.at)])
         return found
 

@@ -20,10 +20,12 @@ WORDS = re.compile(
     | (?P<NUMBER>[0-9][A-Za-z0-9_.]*)
     | (?P<ATTRIBUTE>@[a-z]+)
     | (?P<STRING>"[^"\n]*")
-    | (?P<SIGN>\{=|=\}|->|~>|\+\+|--|<<|>>|==|!=|<=|>=|&&|\|\||[-+*/%]=|.)""",
+    | (?P<SIGN>\{=|=\}|->|~>|\+\+|--|<<=|>>=|<<|>>|==|!=|<=|>=|&&|\|\||[-+*/%&|^]=|.)""",
     re.DOTALL | re.VERBOSE,
 )
-SIGNS = "-> ~> ++ -- << >> == != <= >= && || += -= *= /= %= + - * / % ! = < > ( ) [ ] { } , : ; . ?".split()
+SIGNS = (
+    "-> ~> ++ -- <<= >>= << >> == != <= >= && || += -= *= /= %= &= |= ^= + - * / % & | ^ ~ ! = < > ( ) [ ] { } , : ; . ?"
+).split()
 OPENS, CLOSES = "{=", "=}"
 
 
@@ -73,7 +75,7 @@ class Lexer:
                     self._count_lines(start, place)
                 continue
             written = each.group()
-            if kind == "NAME":
+            if kind == "NAME" or kind == "ATTRIBUTE":
                 kind = kinds.get(written, kind)
             elif kind == "SIGN":
                 if written == OPENS and end == len(text):

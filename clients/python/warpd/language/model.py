@@ -9,13 +9,14 @@ from dataclasses import dataclass, field
 from typing import TYPE_CHECKING, NamedTuple, Optional
 
 from . import tree
+from .arrays import Start, started
 from .bodies import BodyCheck
 from .faults import Report
 from .lowering import Made, Maker
 from .routines import Routine
 from .scope import LONGEST_NAME, Scope
 from .tree import At
-from .types import INT, Type
+from .types import INT, Array, Type
 from .values import Parts
 
 if TYPE_CHECKING:
@@ -35,7 +36,14 @@ LIMITS = {
     1: Limits(1_000_000, 1_000_000, 32),
     2: Limits(10_000_000, 10_000_000, 64),
     3: Limits(15_624_999, 15_624_999, 64),
+    4: Limits(15_624_999, 15_624_999, 64),
 }
+# The version that a program has where nothing says one, and the one that it has where it needs more than that.
+PLAIN, LATER = 2, 4
+
+
+class NeedsLater(Exception):
+    """The program needs version 4, and nothing says which one it has."""
 
 
 def joined(path: Iterable[str], taken: Collection[str] = ()) -> str:
@@ -105,6 +113,14 @@ class Instance:
     reactor: dict = field(default_factory=dict)
     kept: int = 0
     is_added: bool = False
+    # In version 4: what it is called for people where that is not its name, and how all that it has is called, each where
+    # that is not its name.
+    called: str = ""
+    names: dict[str, str] = field(default_factory=dict)
+    hidden: list[str] = field(default_factory=list)
+    # The sides of its arrays; and whether the text says what it is called.
+    sides: dict[str, tuple[int, ...]] = field(default_factory=dict)
+    is_called: bool = False
 
     def told(self, port: str) -> str:
         """A port as the text names it."""
@@ -152,7 +168,8 @@ class Program:
     the reactors with their modes, by the `id` of what is compiled of them."""
 
     at: At
-    version: int = 2
+    version: int = PLAIN
+    is_stated: bool = False
     stop: int = 0
     is_exact: bool = True
     is_whole: bool = True
@@ -179,6 +196,15 @@ class Program:
     def limits(self) -> Limits:
         return LIMITS[self.version]
 
+    @property
+    def is_later(self) -> bool:
+        return self.version >= LATER
+
+    def needs_later(self) -> None:
+        """The program needs version 4: that ends the work on it, where it may have this version."""
+        if not self.is_stated and not self.is_later:
+            raise NeedsLater
+
     def ranged(self, report: Report, value: Optional[int], limit: str, at: At, what: str) -> int:
         """The value of a time, 0 to this limit of the version; where it is more, a later version that takes it is told."""
         later = [it for it in LIMITS if it > self.version and value is not None and value <= getattr(LIMITS[it], limit)]
@@ -188,6 +214,8 @@ class Program:
 
     def lowered(self, it: tree.Expression, names: dict[str, int], scope: Scope, wanted: Optional[Type] = None) -> Made:
         """The value of a constant that was checked, as one of this type."""
+        if isinstance(wanted, Array):
+            return self.started(it, wanted, names, scope, it.at).cells("")
         maker = Maker(names, scope.types, self.unit or 1, scope.named)
         maker.left = self.structure.left
         made = maker.value(it, wanted)
@@ -201,6 +229,15 @@ class Program:
         before = scope.report.errors
         scope.constant(it, wanted)
         return self.lowered(it, names, scope, wanted) if scope.report.errors == before else None
+
+    def started(
+        self, it: Optional[tree.Expression], wanted: Array, names: dict[str, int], scope: Scope, at: At
+    ) -> Start:
+        """What an array begins with, of a start that was checked."""
+        def number(each: tree.Expression, type: Type) -> int:
+            return self.lowered(each, names, scope, type)
+
+        return started(it, wanted, number, names, scope.report, at)
 
     def told(self, port: Port) -> str:
         """A port as the text names it."""
@@ -217,14 +254,28 @@ class Program:
         made["reactors"] = [it.reactor for it in self.instances.values()]
         return {**made, **{key: value for key, value in lists.items() if value}}
 
-    def names(self) -> dict:
-        """What each number of a line or a reply names: the place in its list is the number."""
-        variables = [(name, it.reactor.get("vars", ())) for name, it in self.instances.items()]
-        return {
-            "vars": [f"{name}.{each}" for name, starts in variables for each, _ in starts],
-            "inputs": [[it.origin, str(it.port)] for it in self.inputs],
-            "outputs": [str(it.port) for it in self.outputs],
+    def names(self, is_flat: bool = False) -> dict:
+        """What each number of a line or a reply names: the place in its list is the number. Flat names are those of the
+        program file, others those by which it is told of them in version 4."""
+        def named(instance: str, name: str) -> str:
+            it = self.instances[instance]
+            return f"{instance}.{name}" if is_flat else f"{it.called or instance}.{it.names.get(name, name)}"
+
+        variables = [(name, each) for name, it in self.instances.items() for each, _ in it.reactor.get("vars", ())]
+        found = {
+            "vars": [named(*it) for it in variables],
+            "inputs": [[it.origin, named(*it.port)] for it in self.inputs],
+            "outputs": [named(*it.port) for it in self.outputs],
         }
+        if not self.is_later:
+            return found
+        arrays, first = [], len(variables)
+        for name, it in self.instances.items():
+            for each, count, _ in it.reactor.get("arrays", ()):
+                arrays.append([named(name, each), first, count])
+                first += count
+        hidden = [number for number, (name, each) in enumerate(variables) if each in self.instances[name].hidden]
+        return {**found, "arrays": arrays, "hidden": hidden}
 
 
 def ranged(

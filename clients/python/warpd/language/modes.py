@@ -108,7 +108,9 @@ class Modes:
         for mode in self.modes:
             if self._asks_first(mode):
                 starts[self.started[mode.name.text]] = int(mode.is_initial)
-        return [tree.State(self._name(name), None, self._number(start)) for name, start in starts.items()]
+        return [
+            tree.State(self._name(name), None, self._number(start), is_own=name != self.mode) for name, start in starts.items()
+        ]
 
     def _asks_first(self, mode: tree.Mode) -> bool:
         """Whether something of a mode depends on whether it was entered before."""

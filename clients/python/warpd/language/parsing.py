@@ -3,6 +3,7 @@
 from __future__ import annotations
 
 from collections.abc import Collection, Sequence
+from dataclasses import replace
 from typing import Optional
 
 from . import refused, tree
@@ -74,11 +75,12 @@ class Parser:
     def file(self) -> Optional[tree.File]:
         """The tree; None where its structure has a fault. Bodies are read in any case."""
         words = in_place(collapsed(Lexer(self.text, grammar().kinds, self.before).words()))
+        grammar().builder.may_need_later = False
         for it in words:
             if it.kind == "BODY":
                 it.value = self._body(it)
         made = self._parsed(words, "file", refused.STRUCTURE)
-        return made if self.is_whole else None
+        return replace(made, may_need_later=grammar().builder.may_need_later) if self.is_whole and made else None
 
     def test(self, word: Word) -> Optional[tests.Block]:
         """The tree of a `test` block; None where it has a fault."""
@@ -180,7 +182,7 @@ def _foreign(words: Sequence[Word], number: int, table: dict) -> Optional[tuple]
     if words[start].kind == "STATE":
         before = words[number - 1]
         if "[" in (words[number].text, before.text):
-            return (words[number] if words[number].text == "[" else before), refused.ARRAYS
+            return (words[number] if words[number].text == "[" else before), refused.SIDES
         if before.text == "(" or words[number].text == "(":
             last = words[number + (words[number].text == "(")]
             return (before if before.text == "(" else words[number]), ("a start stands behind `=`", f"write `= {last}`")

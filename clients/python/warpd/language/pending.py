@@ -8,6 +8,7 @@ from typing import NamedTuple
 from .faults import Report
 from .model import Port, Program
 from .tree import At
+from .values import lists_of
 
 MOST_PENDING = 256
 
@@ -63,12 +64,11 @@ def _leads(program: Program) -> dict[Port, list[Delayed]]:
 
 def _schedules(statements: list) -> Iterator[tuple[str, int]]:
     """The actions that a list schedules, with the delays that stand there."""
-    for word, *parts in statements:
-        if word == "schedule":
-            yield parts[0], parts[1]
-        elif word == "if":
-            yield from _schedules(parts[1])
-            yield from _schedules(parts[2])
+    for it in statements:
+        if it[0] == "schedule":
+            yield it[1], it[2]
+        for inner in lists_of(it):
+            yield from _schedules(inner)
 
 
 def _behind(leads: dict[Port, list[Delayed]], start: Port) -> set[Delayed]:

@@ -72,6 +72,12 @@ class Places:
             self.report.error(index.at, text)
         return [value] if value is not None and 0 <= value < count else []
 
+    def has_one_index(self, place: tree.Place) -> None:
+        """Tells more indices of a port or an instance than one."""
+        for more, name in ((place.owner_more, place.owner), (place.more, place.name)):
+            if more:
+                self.report.error(more[0].at, f"`{name.text}` has one index", "only state variables have two: `state b: int[3][4]`")
+
     def constant(self, it: tree.Expression) -> Optional[int]:
         return self.program.constant(self.node.scope, it, self.node.constants)
 
@@ -82,6 +88,7 @@ class Places:
     def points(self, place: tree.Place, wanted: Kind, inner: Kind) -> Points:
         """The ports of a place, which must be of the kind `wanted` where they are the node's own, and of the kind
         `inner` where an instance has them."""
+        self.has_one_index(place)
         nodes = self.nodes(place) if place.owner else [self.node]
         kind = inner if place.owner else wanted
         if not nodes or not all(it.is_known for it in nodes) or not self._is_there(nodes[0], place, kind):
@@ -100,7 +107,7 @@ class Places:
         if found:
             hint = "a connection leads from an output to an input: `p.y -> q.a`"
             hint = hint if found in (Kind.INPUT, Kind.OUTPUT) else ""
-            self.report.error(place.at, f"`{place}` is {found.value}: here stands {kind.value}", hint)
+            self.report.error(place.at, f"`{place}` is {found.value}: here belongs {kind.value}", hint)
         elif place.owner:
             self.report.error(place.name.at, f"{node.raw.name} has no port `{name}`", near)
         else:

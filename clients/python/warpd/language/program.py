@@ -13,7 +13,9 @@ from .forms import Form, has_structure, seen
 from .head import Head
 from .hierarchy import Hierarchy, Node
 from .instances import Writer, check_limits, has_too_much
-from .model import Class, Program
+from .model import LATER, PLAIN, Class, NeedsLater, Program
+from .naming import name_all
+from .needs import FOR_OTHERS, may_need_later, needs_later, tell_needs
 from .order import check_order
 from .reactors import checked, declared
 from .scope import count_of
@@ -23,8 +25,31 @@ from .warnings import warn
 
 
 def program_of(file: tree.File, sources: Sources, report: Report) -> Program:
-    """The program of a tree. It means nothing where the report has an error."""
-    program = Program(file.at)
+    """The program of a tree. It means nothing where the report has an error. Where the text says no version, it has version
+    4 where it needs it, and else version 2."""
+    before = report.mark()
+    if not may_need_later(sources):
+        try:
+            return _program(PLAIN, file, sources, report)
+        except NeedsLater:
+            report.back_to(before)
+    program = _program(LATER, file, sources, report)
+    if not program.is_stated and not report.errors and not needs_later(program):
+        # What would have needed it was worked out, or is in no reaction.
+        later = report.mark()
+        report.back_to(before)
+        try:
+            plain = _program(PLAIN, file, sources, report)
+            if not report.errors and not needs_later(plain, FOR_OTHERS):
+                return plain
+        except NeedsLater:
+            pass
+        report.back_to(later)
+    return program
+
+
+def _program(version: int, file: tree.File, sources: Sources, report: Report) -> Program:
+    program = Program(file.at, version)
     try:
         _write(program, file, sources, report)
     except TooLarge as past:
@@ -36,6 +61,7 @@ def program_of(file: tree.File, sources: Sources, report: Report) -> Program:
 
 def _write(program: Program, file: tree.File, sources: Sources, report: Report) -> None:
     Head(file, program, report).read()
+    tell_needs(file, sources, program, report)
     raws = [declared(it, program, report) for it in file.reactors]
     mains = [one for one in _named(raws, report) if one.tree.is_main]
     program.written = sources.written
@@ -59,6 +85,8 @@ def _write(program: Program, file: tree.File, sources: Sources, report: Report) 
         it.bodies()
     if not report.errors and not has_too_much(program):
         Ending(program, report).write()
+    if program.is_later and not report.errors:
+        name_all(program)
     for judge in (check_limits, check_order, warn):
         if not report.errors:
             judge(program, report)

@@ -6,11 +6,12 @@ from collections.abc import Iterable
 
 from . import routines, tree
 from .bodies import BodyCheck
-from .faults import Report
+from .faults import Report, port_of
 from .model import Class, Program
+from .naming import MOST_LETTERS, is_told
 from .routines import RoutineCheck
 from .scope import Kind, Scope
-from .types import INT, Struct
+from .types import INT, Array, Struct
 
 KINDS = {tree.State: Kind.VARIABLE, tree.Action: Kind.ACTION, tree.Timer: Kind.TIMER}
 
@@ -27,7 +28,7 @@ def declared(it: tree.Reactor, program: Program, report: Report, constants: Iter
     scope.kinds.update(dict.fromkeys(constants, Kind.CONSTANT))
     one = Class(it, scope)
     for parameter in it.parameters:
-        type = scope.type(parameter.type)
+        type = scope.type(parameter.type, is_array=True)
         if parameter.default:
             scope.constant(parameter.default, type)
         scope.declare(parameter.name, Kind.PARAMETER, type)
@@ -39,9 +40,10 @@ def declared(it: tree.Reactor, program: Program, report: Report, constants: Iter
     scope.kinds.setdefault("shutdown", Kind.SHUTDOWN)
     one.methods = routines.declared(it.every(tree.Function), scope)
     for name, type in [*scope.types.items()]:
-        if isinstance(type, Struct) and scope.kinds[name] is Kind.VARIABLE:
-            program.structure.take(len(type.fields), scope.places[name], "the fields of structs come to too many parts")
-            scope.group(name, type)
+        of, sides = (type.of, type.sides) if isinstance(type, Array) else (type, ())
+        if isinstance(of, Struct) and scope.kinds[name] is Kind.VARIABLE:
+            program.structure.take(len(of.fields), scope.places[name], "the fields of structs come to too many parts")
+            scope.group(name, of, sides)
     one.is_good = report.errors == before
     return one
 
@@ -64,7 +66,8 @@ def checked(one: Class, report: Report) -> Class:
 
 def _declare(scope: Scope, member: tree.Member) -> None:
     if type(member) in KINDS:
-        its = INT if isinstance(member, tree.Timer) else scope.type(member.type, not isinstance(member, tree.State))
+        is_state = isinstance(member, tree.State)
+        its = INT if isinstance(member, tree.Timer) else scope.type(member.type, not is_state, is_state)
         scope.declare(member.name, KINDS[type(member)], its)
     elif isinstance(member, tree.Ports):
         its = scope.type(member.type)
@@ -74,6 +77,8 @@ def _declare(scope: Scope, member: tree.Member) -> None:
 
 
 def _member(scope: Scope, member: tree.Member) -> None:
+    if getattr(member, "called", ""):
+        _called(scope.report, member)
     match member:
         case tree.State() if member.start:
             scope.constant(member.start, scope.types[member.name.text])
@@ -81,6 +86,19 @@ def _member(scope: Scope, member: tree.Member) -> None:
             _arguments(scope, member.arguments, 1, "a logical action has one number, its least delay")
         case tree.Timer():
             _arguments(scope, member.arguments, 2, "a timer has two numbers, its offset and its period")
+
+
+def _called(report: Report, member: tree.Member) -> None:
+    """Checks the words that something is called by."""
+    is_ports = isinstance(member, tree.Ports)
+    at = member.at if is_ports else member.name.at
+    if not is_told(member.called):
+        report.error(at, f"`@called` has 1 to {MOST_LETTERS} printed characters of ASCII, but `\"` and `\\`")
+    if is_ports and any(place.owner for place in member.places) or is_ports and not member.places:
+        text = "a port of an instance is called by the instance's reactor"
+        report.error(at, text, f"write `@called(\"{member.called}\")` where the port is declared")
+    elif is_ports and len({port_of(place.name.text) for place in member.places}) > 1:
+        report.error(at, "`@called` stands before one port: here are several", "write each of them by itself")
 
 
 def _arguments(scope: Scope, arguments: tuple[tree.Expression, ...], most: int, text: str) -> None:

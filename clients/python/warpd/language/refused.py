@@ -13,18 +13,21 @@ STRUCTURE = {
     "~>": ("warpd has no physical connections", "write `->`, and `after` for a delay"),
     '"': ("warpd has no texts: each value is an integer of 64 bits", ""),
     "{=": ("this `{=` is never closed", "a body ends with `=}`"),
-    "@": ("warpd knows no such attribute", "`@origin(0)` stands before an `input` of main"),
+    "@": (
+        "warpd knows no such attribute",
+        "`@origin(0)` stands before an `input` of main, `@hidden` before a `state`, `@called(\"the door\")` before what has a name",
+    ),
 }
 
 _NO_CODE = "a body is no target code"
 _DECLARES = ("a body declares no variables", "write `let NAME = ..;`, or `state NAME: int = 0;` before the reactions")
 _PRINTS = ("a body prints nothing, and is no target code", "put what is to be seen on an output")
-_LOOPS = ("a body has no such loop", "`for` over constant bounds is; what goes on is an action that schedules itself")
+_LOOPS = ("a body has no such loop", "write `while (..; most 100)`: what goes on for ever is an action that schedules itself")
 
 NO_INSTANCE = ("there is no instance `{}` in this reactor", "an instance stands in its reactor: `p = new Player();`")
 
 BODY = {
-    **dict.fromkeys(("while", "do", "goto"), _LOOPS),
+    **dict.fromkeys(("do", "goto"), _LOOPS),
     "switch": ("a body has no `switch`", "write `if (..) .. else if (..) ..`"),
     **{word: (f"`{word}` is not there", "write `else if`") for word in ("elseif", "elif", "elsif")},
     **dict.fromkeys(("printf", "print", "puts", "lf_print", "lf_print_error", "fprintf"), _PRINTS),
@@ -41,12 +44,6 @@ BODY = {
     "and": ("`and` is not there", "write `&&`"),
     "or": ("`or` is not there", "write `||`"),
     "not": ("`not` is not there", "write `!`"),
-    "&": ("warpd has no operators on bits", "`&&` asks whether both hold"),
-    "|": ("warpd has no operators on bits", "`||` asks whether one holds"),
-    "^": ("warpd has no operators on bits", ""),
-    "~": ("warpd has no operators on bits", ""),
-    "<<": ("warpd has no operators on bits", "multiply by a power of two"),
-    ">>": ("warpd has no operators on bits", "divide by a power of two: `/` rounds so that nothing negative is left"),
     "->": (_NO_CODE, "`a->value` is `a`, and `a->is_present` is `present(a)`"),
     '"': ("warpd has no texts: each value is an integer of 64 bits", ""),
 }
@@ -64,7 +61,7 @@ TEST = {
 
 TEST_INSIDE = ("a test stands outside of reactors", "put it behind the `}` of this one")
 
-ARRAYS = ("warpd has no arrays", "a state variable for each place, and `if` or `? :` between them")
+SIDES = ("the sides of an array stand behind its type", "write `state a: int[8]`")
 
 # What C writes behind the name of an input or an action.
 PARTS = {
@@ -73,10 +70,10 @@ PARTS = {
 }
 
 # Names and functions of C, and of Lingua Franca's library, in expressions.
-_DRAWN = ("warpd draws nothing at random", "a state variable does: `seed = (seed * 1103515245 + 12345) % 2147483648`")
-_READS_TAG = ("a body does not read the tag", "count in a state variable, or send the time to an input")
+_DRAWN = ("`{0}(..)` is not there", "`mix(seed, n)` is draw n of a seed: count n in a state variable")
+_READS_TAG = ("`{0}(..)` is not there", "`lf.time` is the time of the tag, and `lf.microstep` its microstep")
 CALLS = {
-    **dict.fromkeys(("rand", "random", "lrand48", "rand_r"), _DRAWN),
+    **dict.fromkeys(("rand", "random", "lrand48", "rand_r", "randint", "srand"), _DRAWN),
     **{
         word: (f"`{word}(..)` is not there", f"write `{{0}} {unit}`") for word, unit in {
             "NSEC": "ns", "NSECS": "ns", "USEC": "us", "USECS": "us", "MSEC": "ms", "MSECS": "ms", "SEC": "s",
@@ -92,6 +89,7 @@ CALLS = {
 VALUES = {
     "forever": ("there is no `forever`", "the stop is the last time: write a number"),
     "FOREVER": ("there is no `FOREVER`", "the stop is the last time: write a number"),
+    **{word: (f"there is no `{word}`", f"write `lf.{word}`, which is of the tag") for word in ("time", "microstep")},
     "never": ("there is no `never`", "a timer with an offset past the stop never comes"),
     "NULL": ("there is no `NULL`", "`present(a)` asks whether something is there"),
     "self": (_NO_CODE, "a state variable stands by its name alone"),

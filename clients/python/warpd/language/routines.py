@@ -38,7 +38,7 @@ class Routine:
             return returns and not always_leaves(it.yes) and not always_leaves(it.no)
 
         body = [*every(self.tree.body or ())]
-        return not self.changes and not any(isinstance(it, tree.Loop) or may_go_on(it) for it in body)
+        return not self.changes and not any(isinstance(it, (tree.Loop, tree.While)) or may_go_on(it) for it in body)
 
 
 class RoutineCheck(BodyCheck):
@@ -89,7 +89,7 @@ def declared(functions: Iterable[tree.Function], scope: Scope) -> list[Routine]:
     found: dict[str, Routine] = {}
     for it in functions:
         name = it.name.text
-        parameters = [(each.name.text, scope.type(each.type, is_number=False)) for each in it.parameters]
+        parameters = [(each.name.text, scope.type(each.type, is_number=False, is_array=True)) for each in it.parameters]
         for each in it.parameters:
             if each.default:
                 scope.report.error(each.default.at, "a parameter of a function has no default", "give it in each call")
@@ -141,7 +141,7 @@ def every(statements: Iterable[tree.Statement]) -> Iterator[tree.Statement]:
                 yield from every(it.no)
             case tree.Block():
                 yield from every(it.statements)
-            case tree.Loop():
+            case tree.Loop() | tree.While():
                 yield from every(it.body)
 
 
@@ -153,26 +153,46 @@ def calls(statements: Iterable[tree.Statement]) -> Iterator[tree.Call]:
                 yield from calls_in(it.value)
             case tree.Invoke():
                 yield from calls_in(it.call)
-            case tree.If():
+                if isinstance(it, tree.Assign) and isinstance(it.name, tree.Place):
+                    for part in (*it.name.owner_indices, *it.name.indices):
+                        yield from calls_in(part)
+            case tree.If() | tree.While():
                 yield from calls_in(it.test)
+            case tree.Loop():
+                for part in (it.first.value, it.test, it.step.value):
+                    yield from calls_in(part)
             case tree.Leave() if it.value:
                 yield from calls_in(it.value)
 
 
 def calls_in(it: tree.Expression) -> Iterator[tree.Call]:
+    """Each call in an expression."""
+    return (each for each in parts_in(it) if isinstance(each, tree.Call))
+
+
+def references(it: tree.Expression) -> Iterator[tree.Reference]:
+    """Each name in an expression that stands alone."""
+    return (each for each in parts_in(it) if isinstance(each, tree.Reference))
+
+
+def parts_in(it: tree.Expression) -> Iterator[tree.Expression]:
+    """An expression with all that is in it."""
+    yield it
     match it:
         case tree.Unary():
-            yield from calls_in(it.part)
+            yield from parts_in(it.part)
         case tree.Binary():
-            yield from calls_in(it.left)
-            yield from calls_in(it.right)
+            yield from parts_in(it.left)
+            yield from parts_in(it.right)
         case tree.Choice():
             for part in (it.test, it.yes, it.no):
-                yield from calls_in(part)
+                yield from parts_in(part)
         case tree.Call():
-            yield it
             for part in it.parts:
-                yield from calls_in(part)
+                yield from parts_in(part)
+        case tree.Member():
+            for part in (*it.place.owner_indices, *it.place.indices):
+                yield from parts_in(part)
 
 
 def always_leaves(statements: Iterable[tree.Statement]) -> bool:

@@ -10,7 +10,7 @@ from typing import TYPE_CHECKING, Optional
 from . import refused, tree
 from .faults import Report, listed, meant, nearest, port_of
 from .tree import At
-from .types import FIXED, INT, NAMED, Struct, Type, common, is_fixed, number_of
+from .types import FIXED, INT, NAMED, Array, Struct, Type, common, is_fixed, number_of
 from .values import MOST
 
 if TYPE_CHECKING:
@@ -41,8 +41,14 @@ CONSTANTS = (Kind.PARAMETER, Kind.CONSTANT)
 # How many parts each function takes; None is without end.
 FUNCTIONS = {
     "min": (2, None), "max": (2, None), "abs": (1, 1), "clamp": (3, 3), "present": (1, 1), "floor": (1, 1),
-    "round": (1, 1), "fixed": (1, 1),
+    "round": (1, 1), "fixed": (1, 1), "mix": (2, 2), "muldiv": (3, 3),
 }
+# Operators on bits, and functions, of whole numbers alone.
+ON_BITS = ("&", "|", "^", "<<", ">>", "~")
+ON_WHOLE = ("mix", "muldiv")
+# What is told of the tag that is executed: `lf.time`.
+TAG = {"time": "time", "microstep": "micro"}
+MOST_SIDES = 2
 STATEMENTS = {"put": (2, 2), "schedule": (2, 3), "request_stop": (0, 0), "set_mode": (1, 1)}
 LONGEST_NAME = 32
 
@@ -75,6 +81,8 @@ class Scope:
         self.is_reactor = False
         # How names are told of that the text spells otherwise.
         self.spellings: dict[str, str] = {}
+        # Where a cell of an array is asked for by a number, or by a name alone.
+        self.numbered: list[tuple[tree.Place, Sequence[tree.Expression]]] = []
 
     def with_constants(self, names: Iterable[str]) -> Scope:
         """A scope with these constants more."""
@@ -89,14 +97,19 @@ class Scope:
         inner.is_reactor = True
         return inner
 
-    def group(self, name: str, struct: Struct) -> None:
-        """Names the variables of a struct."""
+    def group(self, name: str, struct: Struct, sides: tuple = ()) -> None:
+        """Names the variables of a struct; of an array of them, with these sides, the arrays."""
         self.fields[name] = {}
-        for field in struct.fields:
+        for field, its in struct.fields.items():
             variable = f"{name}_{field}"
             while variable in self.kinds:
                 variable += "_"
-            self.declare(tree.Name(variable, self.places[name]), Kind.VARIABLE, struct.fields[field])
+            inner = (its.of, (*sides, *its.sides)) if isinstance(its, Array) else (its, sides)
+            if len(inner[1]) > MOST_SIDES:
+                text = f"`{name}` would have cells of {len(inner[1])} sides: {MOST_SIDES} are allowed"
+                self.report.error(self.places[name], text)
+                inner = inner[0], inner[1][:MOST_SIDES]
+            self.declare(tree.Name(variable, self.places[name]), Kind.VARIABLE, Array(*inner) if inner[1] else its)
             self.fields[name][field] = variable
             self.read.add(variable)
 
@@ -133,18 +146,41 @@ class Scope:
         return near
 
     def no_array(self, place: tree.Place, at: At) -> None:
-        """Tells a place with an index that is no channel: with the multiport or the bank that is near, where nothing
-        has this name, or else that there are no arrays."""
+        """Tells a place with an index that is no channel and no array: with the one that is near, where nothing has this
+        name, or else that it is none."""
         name = place.owner or place.name
         wide = {it.split("[")[0] for it in self.kinds if "[" in it}
-        near = "" if name.text in self.kinds else nearest(name.text, wide)
-        if near:
-            self.report.error(name.at, f"`{name.text}` is not declared here", near)
+        wide |= {it for it, type in self.types.items() if isinstance(type, Array)}
+        kind = self.kinds.get(name.text)
+        if kind is None:
+            self.report.error(name.at, f"`{name.text}` is not declared here", nearest(name.text, wide))
         else:
-            self.report.error(at, *refused.ARRAYS)
+            hint = f"`state {name.text}: int[8]` is one" if kind is Kind.VARIABLE else ""
+            self.report.error(at, f"`{name.text}` is {kind.value}, and no array: it has no index", hint)
 
-    def type(self, it: Optional[tree.Name], is_number: bool = True) -> Type:
-        """The type of this name, `int` where none stands. What is no type is told, and a struct where none can stand."""
+    def element(self, type: Type, place: tree.Place, indices: Sequence[tree.Expression], body: Optional[BodyCheck]) -> Type:
+        """Checks what stands in brackets behind a name of this type, and gives the type of what is found there."""
+        if not indices:
+            return type
+        if not isinstance(type, Array):
+            self.no_array(place, place.at)
+            return INT
+        # One index alone counts the cells, line by line.
+        if len(indices) not in (1, len(type.sides)):
+            name = (place.owner or place.name).text
+            hint = f"write `{name}{'[0]' * len(type.sides)}`"
+            self.report.error(place.at, f"`{name}` has {count_of(len(type.sides), 'side')}: {len(indices)} in brackets here", hint)
+        for it in indices:
+            self.of_type(it, INT, body)
+            if isinstance(it, (tree.Number, tree.Reference, tree.Unary)):
+                self.numbered.append((place, indices))
+        return type.of
+
+    def type(self, it: Optional[tree.Name], is_number: bool = True, is_array: bool = False) -> Type:
+        """The type of this name, `int` where none stands. What is no type is told, and a struct or an array where none can
+        stand."""
+        if isinstance(it, tree.Sized):
+            return self._array(it, is_number, is_array)
         found = self.named.get(it.text) if it else INT
         if found is None:
             near = nearest(it.text, [*self.named]) or "there are `int`, `bool`, `time` and `fixed`"
@@ -155,29 +191,91 @@ class Scope:
             self.report.error(it.at, text, "write one for each of its fields")
         return INT if found is None or is_number and isinstance(found, Struct) else found
 
+    def _array(self, it: tree.Sized, is_number: bool, is_array: bool) -> Type:
+        of = self.type(tree.Name(it.text, it.at), is_number)
+        if not is_array:
+            text = "only state variables, constants, parameters, fields, and ports without a width have arrays"
+            self.report.error(it.at, f"`{it.text}{'[]' * len(it.sides)}` is an array: {text}")
+            return of
+        if len(it.sides) > MOST_SIDES:
+            self.report.error(it.at, f"{len(it.sides)} sides: an array has one or two")
+        for place, side in enumerate(it.sides):
+            if side is None and place:
+                self.report.error(it.at, "only the first side may be left out", "write the others: `int[][4]`")
+            elif side is not None:
+                self.constant(side, INT)
+        return Array(of, it.sides[:MOST_SIDES])
+
     def constant(self, it: tree.Expression, wanted: Optional[Type] = None) -> Type:
         """Checks an expression that must be constant, and of this type."""
         return self.of_type(it, wanted, None)
 
     def of_type(self, it: tree.Expression, wanted: Optional[Type], body: Optional[BodyCheck]) -> Type:
         """Checks an expression whose value goes where this type is, and gives the type that it has there."""
+        if isinstance(it, tree.List):
+            return self.listed(it, wanted)
         found = self.expression(it, body)
+        if isinstance(found, Array) and isinstance(wanted, Array):
+            if found.of != wanted.of or len(found.sides) != len(wanted.sides):
+                self.report.error(it.at, f"this is `{found}`: here belongs `{wanted}`")
+            return wanted
+        if isinstance(found, Array):
+            self.report.error(it.at, "this is an array: here belongs a number", "a cell of it is one: `a[0]`")
+            return INT if wanted is None else wanted
+        if isinstance(wanted, Array):
+            # One number for all cells.
+            return self.of_type_of(it, found, wanted.of) and wanted
+        return self.of_type_of(it, found, wanted)
+
+    def handed(self, it: tree.Expression, wanted: Type, body: Optional[BodyCheck]) -> None:
+        """Checks what a function gets: where that is an array, a number does not do."""
+        if not isinstance(wanted, Array):
+            self.of_type(it, wanted, body)
+            return
+        found = self.expression(it, body)
+        if not isinstance(found, Array):
+            self.report.error(it.at, "this is a number: here belongs an array", "an array is handed on by its name alone")
+        elif found.of != wanted.of or len(found.sides) != len(wanted.sides):
+            self.report.error(it.at, f"this is `{found}`: here belongs `{wanted}`")
+
+    def listed(self, it: tree.List, wanted: Optional[Type]) -> Type:
+        """Checks a list of values: of an array, and in it of its lines."""
+        if not isinstance(wanted, Array) or isinstance(wanted.of, Struct):
+            self.report.error(it.at, "a list stands only where an array of numbers begins", "write `state a: int[3] = {1, 2, 3};`")
+            return INT if wanted is None else wanted
+        for part in it.parts:
+            if isinstance(part, tree.List):
+                self.listed(part, Array(wanted.of, wanted.sides[1:]) if wanted.sides[1:] else wanted.of)
+            elif wanted.sides[1:] and any(isinstance(each, tree.List) for each in it.parts):
+                self.report.error(part.at, "this is a number: here belongs a list", "each line is one: `{{1, 2}, {3, 4}}`")
+            else:
+                self.constant(part, wanted.of)
+        return wanted
+
+    def of_type_of(self, it: tree.Expression, found: Type, wanted: Optional[Type]) -> Type:
+        """Tells where what was found is not of the wanted type, and gives the type that it has there."""
+        if isinstance(found, Struct) and any(isinstance(each, Array) for each in found.fields.values()):
+            self.report.error(it.at, f"a `{found}` has an array: only its parts are handed on, one by one")
+            return INT if wanted is None else wanted
         if wanted is None or found == wanted or (found, wanted) == (INT, FIXED):
             return found if wanted is None else wanted
         if (found, wanted) == (FIXED, INT):
             hint = "`floor(..)` gives the whole number that is not above it, and `round(..)` the nearest"
-            self.report.error(it.at, "this is `fixed`: here stands an `int`", hint)
+            self.report.error(it.at, "this is `fixed`: here belongs an `int`", hint)
         else:
-            self.report.error(it.at, f"this is `{found}`: here stands {article(wanted)}")
+            self.report.error(it.at, f"this is `{found}`: here belongs {article(wanted)}")
         return wanted
 
     def number(self, it: tree.Expression, body: Optional[BodyCheck]) -> Type:
-        """Checks an expression that is no struct."""
+        """Checks an expression that is no struct and no array."""
         found = self.expression(it, body)
-        if isinstance(found, Struct):
-            self.report.error(it.at, f"this is a `{found}`: here stands a number", "a field of it is one: `p.x`")
-            return INT
-        return found
+        if isinstance(found, str):
+            return found
+        if isinstance(found, Array):
+            self.report.error(it.at, "this is an array: here belongs a number", "a cell of it is one: `a[0]`")
+        else:
+            self.report.error(it.at, f"this is a `{found}`: here belongs a number", "a field of it is one: `p.x`")
+        return INT
 
     def numbers(self, parts: Sequence[tree.Expression], body: Optional[BodyCheck]) -> Type:
         """Checks parts of one operation, and gives the type of what it makes of them."""
@@ -198,9 +296,14 @@ class Scope:
                 return self.member(it, body)
             case tree.Unary("-", tree.Number() as number):
                 return self.literal(number, MOST + 1)
+            case tree.Unary("~"):
+                return self.of_type(it.part, INT, body)
             case tree.Unary():
                 found = self.number(it.part, body)
                 return found if it.operator == "-" else INT
+            case tree.Binary() if it.operator in ON_BITS:
+                for part in (it.left, it.right):
+                    self.of_type(part, INT, body)
             case tree.Binary():
                 found = self.numbers((it.left, it.right), body)
                 return found if it.operator in "+-*/%" else INT
@@ -247,28 +350,76 @@ class Scope:
             self.unknown(it.name, it.at, CONSTANTS)
         elif kind not in CONSTANTS:
             self.report.error(
-                it.at, f"`{it.name}` is {kind.value}: here stands what is constant", "parameters and `const` are"
+                it.at, f"`{it.name}` is {kind.value}: here belongs what is constant", "parameters and `const` are"
             )
         return self.types.get(it.name, INT)
 
+    def is_tag(self, place: tree.Place) -> bool:
+        """Whether this is a part of the tag: `lf.time`."""
+        own = self.types.get("lf") if "lf" in self.kinds else None
+        is_plain = not place.indices and not place.owner_indices
+        return bool(place.owner) and place.owner.text == "lf" and is_plain and not isinstance(own, Struct)
+
+    def tag(self, it: tree.Member, body: Optional[BodyCheck]) -> Type:
+        name = it.place.name
+        if name.text not in TAG:
+            hint = nearest(name.text, TAG) or "`lf.time` and `lf.microstep` are there"
+            self.report.error(it.at, f"`lf.{name.text}` is not there", hint)
+        elif body is None or body.constant:
+            self.report.error(it.at, f"`{it.place}` is no constant")
+        return INT
+
     def member(self, it: tree.Member, body: Optional[BodyCheck]) -> Type:
-        """Checks `p.x`: of a struct."""
+        """Checks `p.x` of a struct, `a[i]` of an array, and what is both."""
         place = it.place
-        if place.index or place.owner_index:
-            self.no_array(place, it.at)
-        elif body is None:
-            self.report.error(it.at, f"`{place}`: here stands what is constant", "parameters and `const` are")
+        if self.is_tag(place):
+            return self.tag(it, body)
+        if not place.owner:
+            return self.element(self._indexed(place, body), place, place.indices, body)
+        if body is None:
+            self.report.error(it.at, f"`{place}`: here belongs what is constant", "parameters and `const` are")
         else:
             owner, name = place.owner, place.name.text
             kind = body.kind_of(owner.text)
             if kind in TRIGGERS and name in refused.PARTS:
                 self.report.error(it.at, *(text.format(owner.text) for text in refused.PARTS[name]))
                 return INT
-            if kind is None:
+            if kind is None and not place.indices and not place.owner_indices:
                 self.report.error(it.at, *(text.format(owner.text) for text in refused.NO_INSTANCE))
-                return INT
-            return self.field(body.reads(owner.text, owner.at), place)
+            elif kind is None:
+                self.no_array(place, it.at)
+            else:
+                return self.part(body.reads(owner.text, owner.at), place, body)
         return INT
+
+    def _indexed(self, place: tree.Place, body: Optional[BodyCheck]) -> Type:
+        """The type of the name before an index."""
+        name = place.name.text
+        kind = body.kind_of(name) if body else self.kinds.get(name)
+        if kind is None or not body and kind not in CONSTANTS:
+            if kind is None:
+                self.no_array(place, place.at)
+            else:
+                self.constant_name(tree.Reference(name, place.name.at))
+            return Array(INT, (None,) * len(place.indices))
+        type = body.type_of(name) if body else self.types.get(name, INT)
+        if body and isinstance(type, Array):
+            body.reads(name, place.name.at)
+        return type
+
+    def part(self, type: Type, place: tree.Place, body: Optional[BodyCheck]) -> Type:
+        """The type of a part of what has this type: `s.x`, `s.cells[i]`, `players[i].x`, `players[i].cells[j]`."""
+        if isinstance(type, Array) and not place.owner_indices:
+            of_structs = isinstance(type.of, Struct)
+            hint = f"write `{place.owner.text}[0].{place.name.text}`" if of_structs else "how many cells it has is a constant: `const SIZE = 8`"
+            text = f"`{place.owner.text}` is an array: it has " + ("an index" if of_structs else f"no `{place.name.text}`")
+            self.report.error(place.at, text, hint)
+            return INT
+        found = self.field(self.element(type, place, place.owner_indices, body), place)
+        if isinstance(found, Array) and not place.indices and isinstance(type, Array):
+            self.report.error(place.at, f"`{place}` is an array: it has an index here")
+            return INT
+        return self.element(found, place, place.indices, body)
 
     def field(self, type: Type, place: tree.Place) -> Type:
         """The type of a field of what has this type."""
@@ -301,6 +452,10 @@ class Scope:
         return INT
 
     def numbers_of(self, name: str, parts: Sequence[tree.Expression], body: Optional[BodyCheck]) -> Type:
+        if name in ON_WHOLE:
+            for part in parts:
+                self.of_type(part, INT, body)
+            return INT
         found = self.numbers(parts, body)
         return {"floor": INT, "round": INT, "fixed": FIXED}.get(name, found)
 
@@ -309,7 +464,7 @@ class Scope:
         if name in refused.CALLS:
             text, hint = refused.CALLS[name]
             part = it.parts[0].text if it.parts and isinstance(it.parts[0], tree.Number) else "5"
-            self.report.error(it.name.at, text, hint.format(part))
+            self.report.error(it.name.at, text.format(name), hint.format(part))
             return
         near = nearest(name, [*FUNCTIONS, *self.routines]) or f"there are {listed(f'`{each}`' for each in FUNCTIONS)}"
         self.report.error(it.name.at, f"no function `{name}`", near)

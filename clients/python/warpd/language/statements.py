@@ -1,26 +1,34 @@
 """From the statements of a checked body to those of a program file.
 
 A `let` means its value at its place. A function is put in where it is called: one that has neither
-loops nor assignments as the expression that it comes to, another as its statements. A loop is written out, turn by turn. What stands behind a
+loops nor assignments as the expression that it comes to, another as its statements. A loop is written out, turn by turn; in
+version 4 one that is long, or whose turns are not known beforehand, is a loop of the program file. What stands behind a
 `return`, `break` or `continue` is put into the other branch of the `if` that it stands in; where that can not be, a
 variable of the compiler's own says that it was reached."""
 
 from __future__ import annotations
 
 from collections.abc import Callable, Mapping, Sequence
-from itertools import count
+from itertools import count, product
 from typing import NamedTuple, Optional, Union
 
 from . import tree
-from .keeping import Fork, Keep, Keeper, Step
-from .lowering import Made, Maker, converted
-from .routines import Routine, every
+from .arrays import started
+from .faults import Report
+from .keeping import Fork, Keep, Keeper, Repeat, Step
+from .lowering import Made, Maker, binary, converted
+from .routines import Routine, calls, every, references
 from .tree import At
-from .types import INT, Struct, Type
-from .values import Cell, Parts, Temp, TooLarge, Value, is_simple, made
+from .types import INT, Array, Struct, Type
+from .values import Cell, Cells, Parts, Temp, TooLarge, Value, is_simple, made, size
 
-# So many turns all loops of a body may have together.
-MOST_TURNS = 1_024
+# So many turns all loops of a body may have together that are written out. In version 4 one that comes to more parts than
+# so many is a loop of the program file.
+MOST_TURNS, MOST_WRITTEN, MOST_COUNTED = 1_024, 256, 65_536
+# So many times the bounds of a loop are worked out that depend on the loops around it.
+MOST_WAYS = 4_096
+# What is asked before each turn is put into the loop's test where it has at most so many parts.
+MOST_ASKED = 64
 # So many statements, one of which may leave, are put into each other's branches.
 MOST_NESTED = 8
 
@@ -53,15 +61,23 @@ class Left(NamedTuple):
         return Left(self.labels - {label}, self.always and label not in self.labels)
 
 
+class Slot(NamedTuple):
+    """A cell of an array that is assigned."""
+
+    array: str
+    place: Value
+
+
 Item = Callable[[], Left]
+Target = Union[str, Cell, Slot, Cells, dict[str, Union[str, Slot]]]
 
 
 class TooMany(Exception):
-    """A loop has too many turns."""
+    """A loop has too many turns; `is_free` says that they are not known beforehand."""
 
-    def __init__(self, at: At):
+    def __init__(self, at: At, is_free: bool = False):
         super().__init__()
-        self.at = at
+        self.at, self.is_free = at, is_free
 
 
 class Body(Maker):
@@ -69,10 +85,18 @@ class Body(Maker):
 
     def __init__(
         self, names: Mapping[str, Made], types: Mapping[str, Type], unit: int, named: Mapping[str, Type],
-        routines: Mapping[str, Routine], outputs: set[str], parts: Parts,
+        routines: Mapping[str, Routine], outputs: set[str], parts: Parts, report: Report, is_later: bool = False,
     ):
-        """`parts` are left for all bodies of the program together."""
+        """`parts` are left for all bodies of the program together; `is_later` says that it has version 4."""
         super().__init__(dict(names), dict(types), unit, named)
+        self.is_later = is_later
+        # How many turns each loop may have at most; of loops around that are not written out the numbers of their turns.
+        self.mosts: list[tuple[At, int]] = []
+        self.counted: dict[str, list[int]] = {}
+        # Whether nothing may be kept at this place, since it is worked out again and again.
+        self.is_asked = False
+        self.sizes: dict[int, tuple[object, int]] = {}
+        self.report = report
         self.left, self.parts = parts.left, parts
         self.base = names, types
         self.routines, self.outputs = routines, outputs
@@ -90,7 +114,7 @@ class Body(Maker):
         self.out.append(Mark(end, False))
         self._sequence(self._items(statements))
         self.parts.left = self.left
-        keeper = Keeper(_without_marks(self.out), variable, self.parts, at)
+        keeper = Keeper(_without_marks(self.out), variable, self.parts, at, self.is_later)
         made_ = keeper.statements()
         self.values = keeper.values
         return made_
@@ -108,16 +132,18 @@ class Body(Maker):
         return value if is_simple(value) else self._temp(value, at)
 
     def _temp(self, value: Value, at: At) -> Value:
-        if isinstance(value, (int, Temp)):
+        if isinstance(value, (int, Temp)) or self.is_asked and size(value) <= MOST_ASKED:
             return value
         temp = Temp(value, at)
         self.out.append(Keep(temp))
         return temp
 
     def _named(self, made_: Made, at: At) -> Made:
-        """What stands for a value behind its place."""
+        """What stands for a value behind its place; an array stands for itself."""
+        if isinstance(made_, Cells):
+            return made_
         if isinstance(made_, dict):
-            return {name: self._temp(value, at) for name, value in made_.items()}
+            return {name: self._named(value, at) for name, value in made_.items()}
         return self._temp(made_, at)
 
     # Statements in turn.
@@ -196,12 +222,20 @@ class Body(Maker):
                 return self._sequence(self._items(it.statements))
             case tree.Loop():
                 return self._loop(it)
+            case tree.While():
+                return self._repeated(it, it.body, it.test, self._most(it.most), None)
             case tree.Leave():
                 return self._leave(it)
         return Left()
 
     def _step(self, word: str, target: Union[str, Cell], value: Value, at: At, delay: int = 0) -> None:
         self.out.append(Step(word, target, value, at, delay))
+
+    def _set(self, target: Union[str, Cell, Slot], value: Value, at: At) -> None:
+        if isinstance(target, Slot):
+            self.out.append(Step("setat", target.array, value, at, 0, target.place))
+        else:
+            self._step("put" if target in self.outputs else "set", target, value, at)
 
     def _let(self, it: tree.Let) -> None:
         made_, type = self.typed(it.value)
@@ -210,18 +244,62 @@ class Body(Maker):
         self.types[it.name.text] = wanted
 
     def _assign(self, it: tree.Assign) -> None:
-        if isinstance(it.name, tree.Place):
-            old: tree.Expression = tree.Member(it.name, it.name.at)
-        else:
-            old = tree.Reference(it.name.text, it.name.at)
-        target, type = Maker.typed(self, old)
-        value = tree.Binary(it.operator, old, it.value, it.name.at.to(it.value.at)) if it.operator else it.value
+        target, type = self._target(it.name)
+        if isinstance(it.value, tree.List):
+            return self._begin(target, type, it.value)
+        if isinstance(type, Array):
+            made_ = self.value(it.value, type.of)
+            for name in target if isinstance(target, dict) else [None]:
+                one, value = (target, made_) if name is None else (target[name], made_[name])
+                self._fill(one, value, it.value.at)
+            return
+        if isinstance(target, Slot) and it.operator:
+            old = ["at", target.array, target.place]
+            made_, found = binary(it.operator, (old, type), self.typed(it.value), self.is_later)
+            return self._set(target, converted(made_, found, type), it.name.at.to(it.value.at))
+        value = it.value
+        if it.operator:
+            old = tree.Member(it.name, it.name.at) if isinstance(it.name, tree.Place) else tree.Reference(it.name.text, it.name.at)
+            value = tree.Binary(it.operator, old, it.value, it.name.at.to(it.value.at))
         made_ = self.value(value, type)
         if isinstance(made_, dict):
             for (name, each), to in zip(self._named(made_, value.at).items(), target.values()):
-                self._step("set", to, each, value.at)
+                self._set(to, each, value.at)
         else:
-            self._step("put" if target in self.outputs else "set", target, made_, value.at)
+            self._set(target, made_, value.at)
+
+    def _begin(self, cells: Cells, type: Array, it: tree.List) -> None:
+        """Gives an array the values of a list again: the reset of a mode does so."""
+        values = started(it, type, self.value, {}, self.report, it.at).values
+        self._fill(cells, 0, it.at)
+        for place, value in enumerate(values):
+            if value:
+                self._set(Slot(cells.name, place), value, it.at)
+
+    def _target(self, it: Union[tree.Name, tree.Place]) -> tuple[Target, Type]:
+        """What is assigned, and its type. Which cell of an array it is is worked out here, and once."""
+        if isinstance(it, tree.Name):
+            return Maker.typed(self, tree.Reference(it.text, it.at))
+        found, type = self.found(it, it.at)
+        indices = [self.value(each) for each in (*it.owner_indices, *it.indices)]
+        if not indices:
+            return found, type
+        if isinstance(found, dict):
+            return {name: self._slot(each, indices, it.at) for name, each in found.items()}, type.of
+        return self._slot(found, indices, it.at), type.of
+
+    def _slot(self, cells: Cells, indices: Sequence[Value], at: At) -> Slot:
+        return Slot(cells.name, self.once(self.place(cells, indices, at), at))
+
+    def _fill(self, cells: Cells, made_: Made, at: At) -> None:
+        """Gives all cells of an array a value, or those of another array."""
+        value = made_ if isinstance(made_, Cells) else self.once(made_, at)
+        counter = Cell(at, (0, cells.count - 1))
+        self._step("set", counter, 0, at)
+        if isinstance(value, Cells):
+            value = self.cell(value, [counter], at)
+        turn = [Step("setat", cells.name, value, at, 0, counter), Step("set", counter, ["+", counter, 1], at)]
+        self.out.append(Repeat(cells.count, ["<", counter, cells.count], turn, at))
 
     def _schedule(self, action: str, delay: tree.Expression, value: Value, at: At) -> Left:
         """A delay that is one of several is asked for: no two of them are scheduled."""
@@ -267,6 +345,12 @@ class Body(Maker):
         self.out.append(Mark(label, True))
         return Left(frozenset([label]), True)
 
+    def _most(self, it: tree.Expression) -> int:
+        """How many turns a loop has at most."""
+        most = self.value(it)
+        self.mosts.append((it.at, most))
+        return most
+
     def _give(self, result: Made, value: Made, at: At) -> None:
         if isinstance(result, dict):
             for name, each in self._named(value, at).items():
@@ -280,23 +364,158 @@ class Body(Maker):
         """The numbers of the turns of a loop. What asks for them counts as a part for each, since nothing of it stays."""
         name, numbers, left = it.first.name.text, [], self.left
         self.types[name], self.names[name] = INT, self.value(it.first.value)
+        if self.is_later and (found := self._range(it, name)) is not None:
+            if len(found) > MOST_COUNTED:
+                raise TooMany(it.at)
+            self.turns, self.left = self.turns + len(found), left - len(found)
+            return [*found]
         old = tree.Reference(name, it.at)
         step = tree.Binary(it.step.operator, old, it.step.value, it.at) if it.step.operator else it.step.value
         while self.value(it.test):
             self.turns += 1
-            if self.turns > MOST_TURNS:
+            if self.turns > (MOST_COUNTED if self.is_later else MOST_TURNS):
                 raise TooMany(it.at)
             numbers.append(self.names[name])
             self.names[name] = self.value(step)
         self.left = left - len(numbers)
         return numbers
 
+    def _range(self, it: tree.Loop, name: str) -> Optional[range]:
+        """The numbers of a loop that counts by a constant to another one; None of any other loop."""
+        match it.test:
+            case tree.Binary(("<" | "<=" | ">" | ">=") as sign, tree.Reference(counter), end) if counter == name:
+                parts = (end, it.step.value)
+            case _:
+                return None
+        if it.step.operator not in ("+", "-") or any(each.name == name for part in parts for each in references(part)):
+            return None
+        end, by = map(self.value, parts)
+        by, is_up = -by if it.step.operator == "-" else by, sign in ("<", "<=")
+        end += (sign == "<=") - (sign == ">=")
+        first = self.names[name]
+        if (by > 0) == is_up and by:
+            return range(first, end, by)
+        return range(0) if (first >= end if is_up else first <= end) else range(MOST_COUNTED + 1)
+
     def _loop(self, it: tree.Loop) -> Left:
+        if it.most:
+            return self._for(it, self._most(it.most), [])
+        ways = self._ways(it) if self.counted else []
+        if ways or self.is_later and not self._has_delay(it) and self._weight(it) > MOST_WRITTEN:
+            turns = self.turns
+            most, numbers = self._counts(it, ways)
+            self.turns = turns
+            return self._for(it, most, numbers)
         before, end = dict(self.labels), Label(it.at)
         turns = [lambda number=number: self._turn(it, number, end) for number in self._turns(it)]
         left = self._labelled(end, turns)
         self.labels = before
         return left
+
+    # Loops of the program file.
+
+    def _ways(self, it: tree.Loop) -> list[str]:
+        """The loops around that are not written out, on which the bounds of this one depend."""
+        names = {each.name for part in (it.first.value, it.test, it.step.value) for each in references(part)}
+        return [name for name in self.counted if name in names and name != it.first.name.text]
+
+    def _counts(self, it: tree.Loop, ways: Sequence[str]) -> tuple[int, list[int]]:
+        """How many turns a loop has at most, and their numbers, whatever turns the loops around it are in."""
+        before, most, numbers = dict(self.names), 0, set()
+        for way, values in enumerate(product(*(self.counted[name] for name in ways))):
+            if way >= MOST_WAYS:
+                raise TooMany(it.at, True)
+            self.names.update(zip(ways, values))
+            found = self._turns(it)
+            most = max(most, len(found))
+            numbers.update(found)
+        self.names = before
+        return most, sorted(numbers)
+
+    def _weight(self, it: tree.Loop) -> int:
+        """How many parts a loop comes to where it is written out; more than enough where one in it is not."""
+        before = dict(self.names), self.turns, self.left
+        try:
+            numbers = self._turns(it)
+            self.names[it.first.name.text] = numbers[0] if numbers else 0
+            found = [self._size(each) for each in it.body]
+            return len(numbers) * sum(found) if max(found, default=0) <= MOST_WRITTEN else MOST_WRITTEN + 1
+        except TooMany:
+            return MOST_WRITTEN + 1
+        finally:
+            self.names, self.turns, self.left = before
+
+    def _size(self, it: tree.Statement) -> int:
+        """How many parts a statement comes to, with the functions that it calls and its loops written out."""
+        match it:
+            case tree.Loop() if not it.most and not self._ways(it):
+                return self._weight(it)
+            case tree.If():
+                return tree.size_of(it.test, self.sizes) + sum(map(self._size, (*it.yes, *it.no)))
+            case tree.Block():
+                return sum(map(self._size, it.statements))
+        bodies = [self.routines[call.name.text].tree.body or () for call in calls((it,)) if call.name.text in self.routines]
+        return tree.size_of(it, self.sizes) + sum(self._size(each) for body in bodies for each in body)
+
+    def _has_delay(self, it: tree.Loop) -> bool:
+        """Whether a delay in a loop depends on the number of its turn: then it must be written out."""
+        name = it.first.name.text
+        delays = [call.parts[1] for call in calls(it.body) if call.name.text == "schedule" and call.parts[1:]]
+        return any(each.name == name for delay in delays for each in references(delay))
+
+    def _for(self, it: tree.Loop, most: int, numbers: Sequence[int]) -> Left:
+        """A loop that counts in a variable."""
+        name, at = it.first.name.text, it.at
+        if not most and not it.most:
+            return Left()
+        counter = Cell(at, (numbers[0], numbers[-1])) if numbers else Cell(at)
+        before = self.names.get(name), self.types.get(name), self.counted
+        self._step("set", counter, self.value(it.first.value), it.first.value.at)
+        self.names[name], self.types[name] = counter, INT
+        self.counted = {**self.counted, name: [*numbers]} if numbers else self.counted
+        old = tree.Reference(name, at)
+        step = tree.Binary(it.step.operator, old, it.step.value, at) if it.step.operator else it.step.value
+        left = self._repeated(it, it.body, it.test, most, lambda: self._step("set", counter, self.value(step), at))
+        self.names[name], self.types[name], self.counted = before
+        return left
+
+    def _repeated(
+        self, it: tree.Statement, body: Sequence[tree.Statement], test: tree.Expression, most: int,
+        step: Optional[Callable[[], None]],
+    ) -> Left:
+        """`step` is what ends each turn. The test is asked before each turn, and not behind one that left the loop."""
+        before, end, turn, inner = dict(self.labels), Label(it.at), Label(it.at), []
+        self.out.append(Mark(end, False))
+        asked = self._asked(test)
+        cell = None if asked is not None else Cell(test.at)
+
+        def ask() -> Left:
+            self._step("set", cell, self.value(test), test.at)
+            return Left()
+
+        def count() -> Left:
+            step()
+            return Left()
+
+        if cell:
+            ask()
+        self.labels = {**self.labels, "break": end, "continue": turn}
+        items = [lambda: self._labelled(turn, self._items(body)), *[count] * bool(step), *[ask] * bool(cell)]
+        left = self._into(inner, items)
+        self.labels = before
+        goes_on = asked if cell is None else cell
+        for label in sorted(left.labels, key=lambda it: it.number):
+            label.is_flagged = True
+            goes_on = made("and", made("not", label.flag), goes_on)
+        self.out.append(Repeat(most, goes_on, inner, test.at))
+        return Left(left.labels - {end})
+
+    def _asked(self, test: tree.Expression) -> Optional[Value]:
+        """What a test comes to as one expression; None where it is none, or is large."""
+        out, left, self.out, self.is_asked = self.out, self.left, [], True
+        value, rest = self.value(test), self.out
+        self.out, self.left, self.is_asked = out, left, False
+        return value if not rest and size(value) <= MOST_ASKED else None
 
     def _turn(self, it: tree.Loop, number: int, end: Label) -> Left:
         if self.left < 0:
@@ -314,8 +533,9 @@ class Body(Maker):
         given = [self._named(self.value(part, type), part.at) for part, (_, type) in zip(it.parts, routine.parameters)]
         if any(each.name.text == routine.name for each in self.calling):
             return 0, INT
-        before = self.names, self.types, self.labels, self.result
+        before = self.names, self.types, self.labels, self.result, self.counted
         self.names, self.types = ({**base} for base in self.base)
+        self.counted = {}
         for (name, type), value in zip(routine.parameters, given):
             self.names[name], self.types[name] = value, type
         self.calling.append(it)
@@ -324,7 +544,7 @@ class Body(Maker):
         else:
             made_ = self._performed(routine, it.at)
         self.calling.pop()
-        self.names, self.types, self.labels, self.result = before
+        self.names, self.types, self.labels, self.result, self.counted = before
         return made_, routine.type or INT
 
     def _performed(self, routine: Routine, at: At) -> Made:
@@ -383,7 +603,7 @@ def _other_branch(out: list, labels: frozenset[Label]) -> Optional[list]:
 def _may_leave(out: list) -> bool:
     return any(
         isinstance(it, Mark) and it.is_left or isinstance(it, Fork) and (_may_leave(it.yes) or _may_leave(it.no))
-        for it in out
+        or isinstance(it, Repeat) and _may_leave(it.body) for it in out
     )
 
 
@@ -397,6 +617,8 @@ def _without_marks(out: list) -> list:
             if it.yes or it.no or not had_any:
                 found.append(it)
         elif not isinstance(it, Mark):
+            if isinstance(it, Repeat):
+                it.body = _without_marks(it.body)
             found.append(it)
         elif it.label.is_flagged:
             found.append(Step("set", it.label.flag, int(it.is_left), it.label.flag.at))

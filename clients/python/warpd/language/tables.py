@@ -36,17 +36,36 @@ class Rule(NamedTuple):
     make: Optional[Callable[[list], Any]]
 
 
+class Ways(dict):
+    """Which state follows: by the state before a part, the part's rule, and the kind of the word behind it. Rules that
+    only hand the part on, as a number is a product and a sum, are passed over, and each way is found once."""
+
+    def __init__(self, states: Sequence[dict[str, int]], rules: Sequence[Rule]):
+        super().__init__()
+        self.states, self.rules = states, rules
+
+    def __missing__(self, way: tuple[int, str, str]) -> int:
+        before, origin, kind = way
+        state = self.states[before][origin]
+        while (to := self.states[state].get(kind, 0)) < 0 and not self.rules[~to].make:
+            state = self.states[before][self.rules[~to].origin]
+        self[way] = state
+        return state
+
+
 class Grammar:
     """Reads words by a table. `builder` has a method for each rule of the grammar."""
 
     def __init__(self, table: dict, builder: object):
+        self.builder = builder
         self.kinds: dict[str, str] = table["kinds"]
         self.starts, self.states = table["starts"], table["states"]
         self.rules = [_rule(builder, *it) for it in table["rules"]]
+        self.ways = Ways(self.states, self.rules)
 
     def read(self, words: Sequence[Word], start: str):
         """What the builder made of these words, the last of which is `$END`."""
-        states, rules = self.states, self.rules
+        states, rules, ways = self.states, self.rules, self.ways
         first, last = self.starts[start]
         stack, values = [first], []
         for number, word in enumerate(words):
@@ -55,13 +74,12 @@ class Grammar:
                 if to is None:
                     raise Stopped(number, self._accepted(stack))
                 size, origin, make = rules[~to]
-                if make:
-                    parts = values[len(values) - size:]
-                    del values[len(values) - size:], stack[len(stack) - size:]
-                    values.append(make(parts))
-                else:
-                    stack.pop()
-                stack.append(states[stack[-1]][origin])
+                begin = len(values) - size
+                parts = values[begin:]
+                # The first state stands before all values.
+                del values[begin:], stack[begin + 1:]
+                values.append(make(parts) if make else parts[0])
+                stack.append(ways[stack[-1], origin, kind])
                 if stack[-1] == last and kind == "$END":
                     return values[0]
             stack.append(to)
@@ -129,11 +147,12 @@ def table_of(text: str) -> dict:
         for action, it in row.values():
             if action.name == "Reduce":
                 rules.setdefault(it, len(rules))
+    # Some names are tokens of `lark`, each comparison of which calls a function: here they are plain.
     rows = [{
-        name: ~rules[it] if action.name == "Reduce" else it for name, (action, it) in states[number].items()
+        str(name): ~rules[it] if action.name == "Reduce" else it for name, (action, it) in states[number].items()
     } for number in range(len(states))]
     kinds = {sign: it.name for it in lark.terminals for sign in SIGNS if _is_written(it.pattern, sign)}
-    kinds.update({it.pattern.value: it.name for it in lark.terminals if it.pattern and it.pattern.value.isidentifier()})
+    kinds.update({it.pattern.value: it.name for it in lark.terminals if it.pattern and it.pattern.value.lstrip("@").isidentifier()})
     return {
         "kinds": kinds, "starts": {it: [conf.start_state, conf.end_state] for it, conf in confs.items()},
         "states": rows, "rules": [_row_of(it) for it in rules],
@@ -158,7 +177,7 @@ def _row_of(rule) -> list:
     takes += [None] * gaps[-1]
     is_handed_on = rule.options.expand1 and not rule.alias and len(takes) == 1 and isinstance(takes[0], int)
     method = rule.alias or rule.origin.name
-    return [len(rule.expansion), rule.origin.name, str(method), takes[0] if is_handed_on else takes]
+    return [len(rule.expansion), str(rule.origin.name), str(method), takes[0] if is_handed_on else takes]
 
 
 def _kept(source: str) -> Path:

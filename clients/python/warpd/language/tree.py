@@ -27,9 +27,16 @@ class Name:
 
 
 @dataclass(frozen=True)
+class Sized(Name):
+    """The name of a type with the sides of an array: of `int[8][4]` two. A side is None where it is left to the start."""
+
+    sides: tuple[Optional[Expression], ...] = ()
+
+
+@dataclass(frozen=True)
 class Place:
-    """`port`, or `instance.port`; either may have an index. `interleaved` goes over the instances of a bank first. A
-    mode has the word of the transition to it, `reset` or `history`."""
+    """`port`, or `instance.port`; either may have an index, and an array of several sides more of them. `interleaved`
+    goes over the instances of a bank first. A mode has the word of the transition to it, `reset` or `history`."""
 
     owner: Optional[Name]
     name: Name
@@ -37,6 +44,18 @@ class Place:
     index: Optional[Expression] = None
     is_interleaved: bool = False
     transition: str = ""
+    owner_more: tuple[Expression, ...] = ()
+    more: tuple[Expression, ...] = ()
+
+    @property
+    def owner_indices(self) -> tuple[Expression, ...]:
+        """All that stands in brackets behind the owner."""
+        return (self.owner_index, *self.owner_more) if self.owner_index is not None else ()
+
+    @property
+    def indices(self) -> tuple[Expression, ...]:
+        """All that stands in brackets behind the name."""
+        return (self.index, *self.more) if self.index is not None else ()
 
     @property
     def at(self) -> At:
@@ -112,7 +131,15 @@ class Call:
     at: At
 
 
-Expression = Union[Number, Duration, Reference, Member, Unary, Binary, Choice, Call]
+@dataclass(frozen=True)
+class List:
+    """`{1, 2}`: the values with which an array begins."""
+
+    parts: tuple[Expression, ...]
+    at: At
+
+
+Expression = Union[Number, Duration, Reference, Member, Unary, Binary, Choice, Call, List]
 
 
 @dataclass(frozen=True)
@@ -152,11 +179,23 @@ class Block:
 
 @dataclass(frozen=True)
 class Loop:
-    """`for (let i = 0; test; i += 1) ..`. `first` is a constant for the first turn, and `step` makes the next one."""
+    """`for (let i = 0; test; i += 1) ..`. `first` is for the first turn, and `step` makes the next one. Where it says how
+    many turns there are at `most`, none of them need be constant."""
 
     first: Let
     test: Expression
     step: Assign
+    body: tuple[Statement, ...]
+    at: At
+    most: Optional[Expression] = None
+
+
+@dataclass(frozen=True)
+class While:
+    """`while (test; most 100) ..`. `most` is None where it is missing, which is a mistake."""
+
+    test: Expression
+    most: Optional[Expression]
     body: tuple[Statement, ...]
     at: At
 
@@ -170,7 +209,7 @@ class Leave:
     at: At
 
 
-Statement = Union[Let, Assign, Invoke, If, Block, Loop, Leave]
+Statement = Union[Let, Assign, Invoke, If, Block, Loop, While, Leave]
 
 
 @dataclass(frozen=True)
@@ -213,12 +252,16 @@ class Parameter:
 
 @dataclass(frozen=True)
 class State:
-    """`is_reset` says that a reset of its mode gives it its start again."""
+    """`is_reset` says that a reset of its mode gives it its start again, `called` how it is told of where that is not its
+    name, `is_hidden` that it is told to nobody who does not ask, `is_own` that it is the compiler's own."""
 
     name: Name
     type: Optional[Name]
     start: Optional[Expression]
     is_reset: bool = False
+    is_hidden: bool = False
+    called: str = ""
+    is_own: bool = False
 
 
 @dataclass(frozen=True)
@@ -231,6 +274,7 @@ class Ports:
     type: Optional[Name]
     at: At
     width: Optional[Expression] = None
+    called: str = ""
 
 
 @dataclass(frozen=True)
@@ -238,12 +282,14 @@ class Action:
     name: Name
     arguments: tuple[Expression, ...]
     type: Optional[Name]
+    called: str = ""
 
 
 @dataclass(frozen=True)
 class Timer:
     name: Name
     arguments: tuple[Expression, ...]
+    called: str = ""
 
 
 @dataclass(frozen=True)
@@ -273,6 +319,7 @@ class Instance:
     reactor: Name
     arguments: tuple[Argument, ...]
     width: Optional[Expression] = None
+    called: str = ""
 
 
 @dataclass(frozen=True)
@@ -349,6 +396,8 @@ class File:
     imports: tuple[Import, ...] = ()
     # The `test` blocks, as words: the compiler passes them over.
     tests: tuple = ()
+    # Whether it has something that may need version 4 of program files.
+    may_need_later: bool = False
 
     @property
     def at(self) -> At:

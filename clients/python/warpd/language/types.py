@@ -4,9 +4,12 @@ from __future__ import annotations
 
 import re
 from dataclasses import dataclass
-from typing import Union
+from typing import TYPE_CHECKING, Optional, Union
 
 from .values import LEAST, MOST, wrapped
+
+if TYPE_CHECKING:
+    from .tree import Expression
 
 INT, FIXED = "int", "fixed"
 # The types that each program has. A `fixed` number is kept as this many parts of 1.
@@ -19,14 +22,25 @@ class Struct:
     """A group of variables: the name of each with its type, and where it has one with its start."""
 
     name: str
-    fields: dict[str, str]
+    fields: dict[str, Type]
     starts: dict[str, int]
 
     def __str__(self) -> str:
         return self.name
 
 
-Type = Union[str, Struct]
+@dataclass(frozen=True)
+class Array:
+    """As many numbers or structs as the sides say: expressions, None where a side is left to the start."""
+
+    of: Union[str, Struct]
+    sides: tuple[Optional[Expression], ...]
+
+    def __str__(self) -> str:
+        return f"{self.of}{'[]' * len(self.sides)}"
+
+
+Type = Union[str, Struct, Array]
 
 
 def common(types: list[Type]) -> Type:

@@ -3,12 +3,14 @@
 from __future__ import annotations
 
 from collections.abc import Callable, Sequence
+from math import prod
+from typing import Optional
 
 from .faults import Report, channels_told, listed, port_of
 from .model import Class, Instance, Port, Program
 from .pending import warn_of_lost
 from .scope import Kind
-from .tree import At, Name, State
+from .tree import At, Expression, Name, Number, Reference, State, Unary
 
 
 def warn(program: Program, report: Report) -> None:
@@ -41,6 +43,7 @@ class ClassWarnings:
             if state.name.text not in self.one.scope.read:
                 text = f"`{state.name.text}` is never read by a reaction"
                 self.report.warning(state.name.at, text, "it can be asked for from outside by its name")
+        self._cells()
         for names in self._multiports():
             self._outputs(names)
         for number, check in enumerate(self.one.reactions):
@@ -50,6 +53,34 @@ class ClassWarnings:
                 lambda it, number=number: not self._runs(it, number), at, f"this reaction never runs: {never}",
                 lambda it, at=at: f"the reaction at {self.report.place(at)} never runs in `{it.title}`: {never}",
             )
+
+    def _cells(self) -> None:
+        """Warns of a number or a constant in brackets, where no instance has such a cell."""
+        for place, indices in self.one.scope.numbered:
+            owner, name = place.owner, place.name.text
+            array = self.one.scope.fields.get(owner.text, {}).get(name) if owner else name
+            every = {it.sides.get(array) for it in self.instances}
+            if None in every or len(place.owner_indices) + len(place.indices) != len(indices):
+                continue
+            within = [(prod(sides),) if len(indices) == 1 else sides for sides in every]
+            for number, index in enumerate(indices):
+                value = self._number(index)
+                if value is not None and not any(0 <= value < sides[number] for sides in within):
+                    most = max(sides[number] for sides in within)
+                    what = "cells" if len(indices) == 1 else "columns" if number else "lines"
+                    text = f"`{(owner or place.name).text}` has {most} {what}, from 0: there is none with the index {value}"
+                    self.report.warning(index.at, text, "0 is read there, and nothing is written")
+
+    def _number(self, it: Expression) -> Optional[int]:
+        """The value of a number or a constant of the text; None where it is something else."""
+        if isinstance(it, Unary) and it.operator == "-":
+            value = self._number(it.part)
+            return None if value is None else -value
+        if isinstance(it, Number):
+            return int(it.text)
+        is_constant = isinstance(it, Reference) and self.one.scope.kinds.get(it.name) is Kind.CONSTANT
+        value = self.program.constants.get(it.name) if is_constant else None
+        return value if isinstance(value, int) else None
 
     def _multiports(self) -> list[list[Name]]:
         """The outputs, those of one multiport together."""

@@ -1,11 +1,17 @@
-"""Words that mean something in one place alone, and are names in all others: `import`, `from`, `as`, `extends` ..."""
+"""Words that mean something in one place alone, and are names in all others: `import`, `from`, `as`, `extends` ...;
+and in bodies `while` before its bracket, and `most` in one."""
 
 from __future__ import annotations
+
+from collections.abc import Sequence
 
 from .lexing import Word
 from .tree import Name
 
 SOFT = {"IMPORT", "FROM", "AS", "EXTENDS", "INTERLEAVED", "INITIAL", "MODE", "RESET", "HISTORY"}
+# Those of bodies, and what a statement begins behind.
+INNER = {"WHILE", "MOST"}
+BEFORE_STATEMENT = {"", "SEMICOLON", "LBRACE", "RBRACE", "RPAR", "ELSE"}
 
 
 def in_place(words: list[Word]) -> list[Word]:
@@ -13,16 +19,28 @@ def in_place(words: list[Word]) -> list[Word]:
     braces, is_import = 0, False
     for number, word in enumerate(words):
         braces += (word.kind == "LBRACE") - (word.kind == "RBRACE")
-        if word.kind in SOFT:
+        if word.kind in INNER:
+            _name(word)
+        elif word.kind in SOFT:
             if not _has_place(words, number, braces, is_import):
                 _name(word)
             is_import = is_import or word.kind == "IMPORT"
         elif word.kind in ("STRING", "LBRACE"):
             is_import = False
-        for part in word.parts:
-            if part.kind in SOFT:
+        before = ""
+        for place, part in enumerate(word.parts):
+            if part.kind in SOFT or part.kind in INNER and not _has_place_in_body(word.parts, place, before):
                 _name(part)
+            before = part.kind
     return words
+
+
+def _has_place_in_body(words: Sequence[Word], number: int, before: str) -> bool:
+    """Whether `while` or `most` stands where it means something; the words of a body end with one that is none."""
+    behind = words[number + 1].kind
+    if words[number].kind == "WHILE":
+        return behind == "LPAR" and before in BEFORE_STATEMENT
+    return before == "SEMICOLON" and behind in ("NAME", "NUMBER")
 
 
 def _has_place(words: list[Word], number: int, braces: int, is_import: bool) -> bool:

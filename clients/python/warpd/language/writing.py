@@ -3,10 +3,11 @@
 from __future__ import annotations
 
 import json
+import re
 from collections.abc import Iterable, Mapping, Sequence
 from typing import Optional
 
-from .values import Value
+from .values import Value, lists_of
 
 KEYWORDS = {
     "target", "const", "reactor", "main", "state", "input", "output", "logical", "action", "timer", "reaction", "new",
@@ -15,15 +16,18 @@ KEYWORDS = {
 }
 # Which keys each object of a program file has, those with lists apart.
 FILE = (("version", "stop", "origins"), ("reactors", "links", "inputs", "outputs"))
-REACTOR = (("name",), ("vars", "inputs", "outputs", "actions", "timers", "reactions"))
+REACTOR = (("name",), ("vars", "arrays", "inputs", "outputs", "actions", "timers", "reactions", "called", "hidden"))
 REACTION = ((), ("on", "reads", "writes", "body"))
 # How tight each operator binds, as in C.
-CHOICE, UNARY, ATOM = 0, 7, 8
+CHOICE, UNARY, ATOM = 0, 11, 12
 BINDS = {
-    "or": ("||", 1), "and": ("&&", 2), "=": ("==", 3), "<": ("<", 4), "+": ("+", 5), "-": ("-", 5),
-    "*": ("*", 6), "/": ("/", 6), "%": ("%", 6),
+    "or": ("||", 1), "and": ("&&", 2), "|": ("|", 3), "^": ("^", 4), "&": ("&", 5), "=": ("==", 6), "<": ("<", 7),
+    "<<": ("<<", 8), ">>": (">>", 8), "+": ("+", 9), "-": ("-", 9), "*": ("*", 10), "/": ("/", 10), "%": ("%", 10),
 }
-NEGATED = {"=": ("!=", 3), "<": (">=", 4)}
+NEGATED = {"=": ("!=", 6), "<": (">=", 7)}
+# Functions with so many parts.
+CALLED = {"min": 2, "max": 2, "abs": 1, "mix": 2, "muldiv": 3}
+TAG = {"time": "lf.time", "micro": "lf.microstep"}
 
 
 def checked(it: Mapping, keys: tuple[Sequence[str], Sequence[str]]) -> Mapping:
@@ -64,6 +68,16 @@ def _bound(value: Value) -> tuple[str, int]:
     if word == "present":
         (its,) = parts
         return f"present({name(its)})", ATOM
+    if word in TAG:
+        () = parts
+        return TAG[word], ATOM
+    if word == "at":
+        array, place = parts
+        return f"{name(array)}[{expression(place)}]", ATOM
+    if word in CALLED:
+        if len(parts) != CALLED[word]:
+            raise ValueError(value)
+        return f"{word}({', '.join(map(expression, parts))})", ATOM
     if word == "if":
         test, yes, no = parts
         return f"{expression(test, CHOICE + 1)} ? {expression(yes)} : {expression(no)}", CHOICE
@@ -95,6 +109,13 @@ def _statement(it: list, margin: str) -> list[str]:
     if word == "schedule":
         action, delay, value = parts
         return [f"{margin}schedule({name(action)}, {number(delay)}, {expression(value)});"]
+    if word == "setat":
+        array, place, value = parts
+        return [f"{margin}{name(array)}[{expression(place)}] = {expression(value)};"]
+    if word == "while":
+        most, test, turn = parts
+        head = f"{margin}while ({expression(test)}; most {number(most)})"
+        return [f"{head} {{", *statements(turn, margin + "  "), f"{margin}}}"] if turn else [f"{head} {{ }}"]
     test, yes, no = parts
     lines = [f"{margin}if ({expression(test)}) {{", *statements(yes, margin + "  ")]
     while len(no) == 1 and no[0][0] == "if":
@@ -117,16 +138,47 @@ def _reaction(it: Mapping) -> list[str]:
 
 def _reactor(title: str, it: Mapping) -> list[str]:
     lines = [f"reactor {title} {{"]
-    lines += [f"  state {name(each)}: int = {number(start)};" for each, start in it.get("vars", ())]
+    told = it.get("called", ())
+    called = {each: text for each, text in told if each}
+    sides = {each: _sides(each, count, called) for each, count, _ in it.get("arrays", ())}
+    # What stands twice in the file does so in the text, which is refused too.
+    tells = {
+        name: "".join(_called(text) for each, text in told if each == name) for name in called
+        if not sides.get(name) or [each for each, _ in told].count(name) > 1
+    }
+    hides = {each: "@hidden " * it["hidden"].count(each) for each in it.get("hidden", ())}
+    for each, start in it.get("vars", ()):
+        lines.append(f"  {tells.get(each, '')}{hides.get(each, '')}state {name(each)}: int = {number(start)};")
+    for each, count, start in it.get("arrays", ()):
+        begins = f" = {{{', '.join(map(number, start))}}}" if isinstance(start, list) else f" = {number(start)}" if start else ""
+        lines.append(f"  {tells.get(each, '')}state {name(each)}: int{sides[each] or f'[{number(count)}]'}{begins};")
     for kind in ("input", "output"):
-        if it.get(kind + "s"):
-            lines.append(f"  {kind} {', '.join(map(name, it[kind + 's']))}: int;")
-    lines += [f"  logical action {name(each)}({number(delay)}): int;" for each, delay in it.get("actions", ())]
+        some = [each for each in it.get(kind + "s", ()) if each not in tells]
+        if len(some) == len(it.get(kind + "s", ())) > 0:
+            lines.append(f"  {kind} {', '.join(map(name, some))}: int;")
+        else:
+            lines += [f"  {tells.get(each, '')}{kind} {name(each)}: int;" for each in it.get(kind + "s", ())]
+    for each, delay in it.get("actions", ()):
+        lines.append(f"  {tells.get(each, '')}logical action {name(each)}({number(delay)}): int;")
     for each, offset, period in it.get("timers", ()):
-        lines.append(f"  timer {name(each)}({number(offset)}, {number(period)});")
+        lines.append(f"  {tells.get(each, '')}timer {name(each)}({number(offset)}, {number(period)});")
     for reaction in it.get("reactions", ()):
         lines += _reaction(reaction)
     return [*lines, "}", ""]
+
+
+def _sides(array: str, count: int, called: Mapping[str, str]) -> str:
+    """The sides of an array that is called by them: `[18][32]`; empty where it is not."""
+    text = called.get(array, "")
+    found = re.fullmatch(r"\[([1-9][0-9]{0,4})\]\[([1-9][0-9]{0,4})\]", text[len(array):])
+    is_board = found and text.startswith(array) and int(found[1]) * int(found[2]) == count
+    return found[0] if is_board else ""
+
+
+def _called(text: str) -> str:
+    if not isinstance(text, str) or not text.isprintable() or '"' in text:
+        raise ValueError(text)
+    return f'@called("{text}") '
 
 
 def _has_next(it: Mapping) -> bool:
@@ -135,9 +187,7 @@ def _has_next(it: Mapping) -> bool:
 
     def may(body: Iterable[list]) -> bool:
         return any(
-            may(each[2]) or may(each[3]) if each[0] == "if" else each[0] == "schedule" and delays.get(each[1], 0) + each[2] == 0
-            for each in body
-        )
+            any(map(may, lists_of(each))) or each[0] == "schedule" and delays.get(each[1], 0) + each[2] == 0 for each in body)
 
     return any(may(each.get("body", ())) for each in it.get("reactions", ()))
 
@@ -155,10 +205,17 @@ def _titled(reactors: Iterable[Mapping]) -> dict[str, tuple[str, Mapping]]:
 
 
 def form_of(reactor: Mapping) -> str:
-    """A reactor without its name; a list that is empty is as one that is not there."""
+    """A reactor without its name, and without what it is called itself; a list that is empty is as one that is not there."""
     rest = {key: value for key, value in reactor.items() if key != "name" and value != []}
+    if "called" in rest:
+        rest["called"] = [it for it in rest["called"] if it[0]]
     rest["reactions"] = [{key: value for key, value in it.items() if value != []} for it in rest.get("reactions", ())]
     return json.dumps(rest, sort_keys=True)
+
+
+def own_names(reactor: Mapping) -> list[str]:
+    """What a reactor is called itself."""
+    return [text for each, text in reactor.get("called", ()) if not each]
 
 
 def text_of(program: Mapping) -> str:
@@ -176,7 +233,10 @@ def text_of(program: Mapping) -> str:
     titled = _titled(reactors)
     for title, it in titled.values():
         lines += _reactor(name(title), it)
-    lines += ["main reactor {", *(f"  {name(it['name'])} = new {name(titled[form_of(it)][0])}();" for it in reactors)]
+    lines.append("main reactor {")
+    for it in reactors:
+        own = "".join(map(_called, own_names(it)))
+        lines.append(f"  {own}{name(it['name'])} = new {name(titled[form_of(it)][0])}();")
     lines += [f"  @origin({number(origin)}) input {port(to)};" for origin, to in inputs]
     lines += [f"  output {port(it)};" for it in program.get("outputs", ())]
     lines += [_connection(*it) for it in program.get("links", ())]

@@ -1,6 +1,7 @@
 -- Places, each with the moment at which its value was put there.
 use Rattle.std.specs.Prelude.{ℕ, ℤ, pos, Bool, ◌==◌, nat_le, List, map, Option, Some, None, if◌then◌else◌}
 use Rattle.std.specs.List.{list_all}
+use Rattle.warp_tag.specs.Moment.{Moment}
 use Rattle.warp_body.specs.declared.slots.Slot.{Slot}
 use Rattle.warp_body.specs.Presence.{Presence}
 
@@ -20,9 +21,10 @@ slots moment places = map (slot moment) places
 abbrev pub are_past : ℕ → List Slot → Bool
 are_past moment places = list_all (λ s. nat_le s.stamp moment) places
 
--- what is present at a moment, of places of each kind, and ports with these sources
-abbrev pub presence_at : ℕ → Slot → List Slot → List Slot → List Slot → List ℕ → Presence
-presence_at moment startup timers actions ports sources = record {
+-- what is present at a tag and a moment, of places of each kind, and ports with these sources
+abbrev pub presence_at : Moment → ℕ → Slot → List Slot → List Slot → List Slot → List ℕ → Presence
+presence_at tag moment startup timers actions ports sources = record {
+  tag = tag;
   startup = slot moment startup;
   timers = slots moment timers;
   actions = slots moment actions;

@@ -49,6 +49,7 @@ fn slot(record: &Record) -> usize {
             + usize::try_from(value.wrapping_add(300)).unwrap_or(0) % VALUES,
         Record::Withdraw { origin, tag } => WITHDRAWALS + name(origin, tag),
         Record::Announce { .. } => 0,
+        Record::Joint { .. } => 0,
     }
 }
 
@@ -88,6 +89,7 @@ impl Judge {
             }
             Record::Withdraw { origin, tag } => self.withdrawn[name(origin, tag)] = true,
             Record::Announce { .. } => {}
+            Record::Joint { .. } => {}
         }
     }
 

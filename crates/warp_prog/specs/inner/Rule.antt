@@ -3,9 +3,9 @@ use Rattle.std.specs.Prelude.{Bool, true, false, not, ◌&&◌, ◌||◌, List, 
 use Rattle.std.specs.List.{list_any}
 use Rattle.warp_prog.specs.File.{Word, ReactorPart, ReactionPart, NamedBody}
 use Rattle.warp_prog.specs.View.{reactor_tree, reaction_tree, body_tree, statement_tree}
-use Rattle.warp_prog.specs.Names.{is_written, reaction_unknown}
+use Rattle.warp_prog.specs.Names.{is_thing, is_written, reaction_unknown}
 use Rattle.warp_prog.specs.Undeclared.{may_read, reaction_undeclared}
-use Rattle.warp_prog.specs.Uses.{Use, Reads, Asks, Sets, Puts, Schedules, body_uses, is_among, variable_names, action_names, carries_value, is_trigger}
+use Rattle.warp_prog.specs.Uses.{Use, Reads, Asks, Sets, Puts, Schedules, Indexes, body_uses, is_among, variable_names, array_names, action_names, carries_value, is_trigger}
 use Rattle.warp_prog.specs.declared.file.PortName.{PortName}
 use Rattle.warp_prog.specs.declared.file.Statement.{Statement}
 use Rattle.warp_prog.specs.declared.role.Role.{Role}
@@ -22,6 +22,8 @@ fits role.Output r name = is_among r.outputs name
 fits role.Action r name = is_among (action_names r) name
 fits role.Written r name = is_written r name
 fits role.Input r name = is_among r.inputs name
+fits role.Array r name = is_among (array_names r) name
+fits role.Thing r name = is_thing r name
 
 -- whether a reaction declares what a body does with a name in this role; true of a variable that is read or set, and in
 -- the roles that no body uses
@@ -33,6 +35,8 @@ declares role.Output r n name = is_among n.writes name
 declares role.Action r n name = is_among n.writes name
 declares role.Written r n name = true
 declares role.Input r n name = true
+declares role.Array r n name = true
+declares role.Thing r n name = true
 
 -- whether a name in this role is as a rule asks
 abbrev pub meets : Rule → Role → Word → Bool
@@ -46,6 +50,7 @@ in_role test (Asks name) = test role.Cause name
 in_role test (Sets name) = test role.Variable name
 in_role test (Puts name) = test role.Output name
 in_role test (Schedules name) = test role.Action name
+in_role test (Indexes name) = test role.Array name
 
 -- whether some use is not as a rule asks
 abbrev pub breaks : Rule → List Use → Bool

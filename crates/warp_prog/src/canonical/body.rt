@@ -2,7 +2,8 @@
 ghost use Rattle.std.specs.Prelude.{◌≡◌, ◌++◌, OnOk, codes, string_bytes};
 ghost use Rattle.warp_prog.specs.Canonical.{assignment_text, binary_word, closing_text, named_front};
 ghost use Rattle.warp_prog.specs.Canonical.{scheduling_text, statement_text, statements_text, term_text};
-ghost use Rattle.warp_prog.specs.Canonical.{unary_word, word_front};
+ghost use Rattle.warp_prog.specs.Canonical.{cell_set_text, unary_word, word_front};
+ghost use Rattle.std.specs.Fmt.{signed_decimal};
 ghost use Rattle.warp_prog.specs.View.{statement_tree, term_tree};
 ghost use Rattle.warp_prog.specs.inner.Rule.{statements_tree};
 
@@ -20,6 +21,7 @@ fn unary_word(operator: UnaryOperator) -> &'static str
     match operator {
         UnaryOperator::Negate => "neg",
         UnaryOperator::Not => "not",
+        UnaryOperator::Absolute => "abs",
     }
 }
 
@@ -37,6 +39,14 @@ fn binary_word(operator: BinaryOperator) -> &'static str
         BinaryOperator::Less => "<",
         BinaryOperator::And => "and",
         BinaryOperator::Or => "or",
+        BinaryOperator::Minimum => "min",
+        BinaryOperator::Maximum => "max",
+        BinaryOperator::BitAnd => "&",
+        BinaryOperator::BitOr => "|",
+        BinaryOperator::BitXor => "^",
+        BinaryOperator::ShiftLeft => "<<",
+        BinaryOperator::ShiftRight => ">>",
+        BinaryOperator::Mix => "mix",
     }
 }
 
@@ -90,6 +100,23 @@ fn spell_term(text: &mut String, term: &Expression) -> Result<(), AllocError>
             spell_term(text, b)?;
             text.push_str("]")
         }
+        Expression::MultiplyDivide(a, b, c) => {
+            open(text, "muldiv")?;
+            spell_term(text, a)?;
+            text.push_str(",")?;
+            spell_term(text, b)?;
+            text.push_str(",")?;
+            spell_term(text, c)?;
+            text.push_str("]")
+        }
+        Expression::At(name, index) => {
+            open_named(text, "at", name)?;
+            text.push_str(",")?;
+            spell_term(text, index)?;
+            text.push_str("]")
+        }
+        Expression::Time => text.push_str("[\"time\"]"),
+        Expression::Microstep => text.push_str("[\"micro\"]"),
     }
 }
 
@@ -141,6 +168,33 @@ fn open_choice(text: &mut String, test: &Expression) -> Result<(), AllocError>
     spell_term(text, test)
 }
 
+/// Adds a statement that sets a cell.
+fn spell_cell_set(
+    text: &mut String,
+    name: &Name,
+    index: &Expression,
+    term: &Expression,
+) -> Result<(), AllocError>
+    ensures { OnOk result (string_bytes text.new
+        ≡ string_bytes text.old ++ cell_set_text name.now (term_tree index.now) (term_tree term.now)) }
+{
+    open_named(text, "setat", name)?;
+    text.push_str(",")?;
+    spell_term(text, index)?;
+    close_with(text, term)
+}
+
+/// Adds the front of a loop: its word, how often it may turn, and its test.
+fn open_loop(text: &mut String, most: i64, test: &Expression) -> Result<(), AllocError>
+    ensures { OnOk result (string_bytes text.new ≡ string_bytes text.old
+        ++ ((word_front (codes "while") ++ signed_decimal most) ++ (codes "," ++ term_text (term_tree test.now)))) }
+{
+    open(text, "while")?;
+    spell_number(text, most)?;
+    text.push_str(",")?;
+    spell_term(text, test)
+}
+
 /// Adds the text of a statement.
 #[cycle(spell_statement)]
 fn spell_statement(text: &mut String, statement: &Statement) -> Result<(), AllocError>
@@ -155,6 +209,12 @@ fn spell_statement(text: &mut String, statement: &Statement) -> Result<(), Alloc
             open_choice(text, test)?;
             spell_behind(text, ",[", first)?;
             close_choice(text, second)
+        }
+        Statement::SetAt(name, index, term) => spell_cell_set(text, name, index, term),
+        Statement::While(most, test, turn) => {
+            open_loop(text, *most, test)?;
+            spell_behind(text, ",[", turn)?;
+            text.push_str("]]")
         }
     }
 }

@@ -1,6 +1,6 @@
 //! Lists of a canonical text, and what stands in them.
 ghost use Rattle.std.specs.Prelude.{◌≡◌, ◌++◌, ℕ, List, OnOk, map, string_bytes};
-ghost use Rattle.warp_prog.specs.Canonical.{comma, listed, quoted, separated};
+ghost use Rattle.warp_prog.specs.Canonical.{comma, listed, part_unless_empty, quoted, separated};
 
 use std::alloc::AllocError;
 
@@ -26,6 +26,21 @@ pub(crate) fn spell_list<T: Spell>(
     text.push_str("[")?;
     spell_each(text, parts)?;
     text.push_str("]")
+}
+
+/// The same where there are parts; nothing where there are none. So are keys spelled that came with version 4.
+pub(crate) fn spell_unless_empty<T: Spell>(
+    text: &mut String,
+    key: &str,
+    parts: &[T],
+) -> Result<(), AllocError>
+    ensures { OnOk result (string_bytes text.new
+        ≡ string_bytes text.old ++ part_unless_empty key.now (map T.spelled parts.now)) }
+{
+    if parts.is_empty() {
+        return Ok(());
+    }
+    spell_list(text, key, parts)
 }
 
 /// Adds these parts, with commas between them.

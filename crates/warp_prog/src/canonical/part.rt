@@ -2,12 +2,17 @@
 
 ghost use Rattle.std.specs.Prelude.{◌≡◌, ◌++◌, OnOk, codes, string_bytes};
 ghost use Rattle.std.specs.Fmt.{signed_decimal};
-ghost use Rattle.warp_prog.specs.Canonical.{delay_text, quoted};
+ghost use Rattle.warp_prog.specs.Canonical.{delay_text, quoted, start_text};
+ghost use Rattle.warp_prog.specs.View.{start_tree};
 
-use crate::canonical::list::{Spell, spell_quoted};
+use crate::canonical::list::{Spell, spell_list, spell_quoted};
 use crate::canonical::number::{spell_further, spell_number};
-use crate::file::{ActionPart, InputPart, LinkPart, PortName, TimerPart, VariablePart};
+use crate::file::{
+    ActionPart, Array, ArrayStart, CalledPart, InputPart, LinkPart, PendingPart, PortName,
+    TimerPart, VariablePart,
+};
 use crate::name::Name;
+use crate::stands_twice::called_name;
 use std::alloc::AllocError;
 
 impl Spell for Name {
@@ -115,4 +120,85 @@ impl Spell for InputPart {
         self.port.spell(text)?;
         text.push_str("]")
     }
+}
+
+impl Spell for i64 {
+    ghost use Rattle.std.specs.Fmt.{signed_decimal};
+
+    ghost spelled = { λ n. signed_decimal n };
+
+    fn spell(&self, text: &mut String) -> Result<(), AllocError> {
+        spell_number(text, *self)
+    }
+}
+
+impl Spell for Array {
+    ghost use Rattle.warp_prog.specs.Canonical.{array_text};
+    ghost use Rattle.warp_prog.specs.View.{array_tree};
+
+    ghost spelled = { λ a. array_text (array_tree a) };
+
+    fn spell(&self, text: &mut String) -> Result<(), AllocError> {
+        open_pair(text, &self.name, self.count)?;
+        spell_start(text, &self.start)?;
+        text.push_str("]")
+    }
+}
+
+/// Adds with what the cells of an array start, behind a comma.
+fn spell_start(text: &mut String, start: &ArrayStart) -> Result<(), AllocError>
+    ensures { OnOk result
+        (string_bytes text.new ≡ string_bytes text.old ++ (codes "," ++ start_text (start_tree start.now))) }
+{
+    match start {
+        ArrayStart::All(number) => spell_further(text, *number),
+        ArrayStart::Each(numbers) => spell_list(text, ",", numbers),
+    }
+}
+
+impl Spell for CalledPart {
+    ghost use Rattle.warp_prog.specs.Canonical.{called_text};
+
+    ghost spelled = { λ c. called_text c };
+
+    fn spell(&self, text: &mut String) -> Result<(), AllocError> {
+        text.push_str("[")?;
+        spell_quoted(text, called_name(self))?;
+        text.push_str(",")?;
+        spell_quoted(text, self.text.as_str())?;
+        text.push_str("]")
+    }
+}
+
+impl Spell for PendingPart {
+    ghost use Rattle.warp_prog.specs.Canonical.{pending_text};
+
+    ghost spelled = { λ p. pending_text p };
+
+    fn spell(&self, text: &mut String) -> Result<(), AllocError> {
+        open_pending(text, self)?;
+        text.push_str(",")?;
+        self.target.spell(text)?;
+        spell_value(text, self)?;
+        text.push_str("]")?;
+        Ok(())
+    }
+}
+
+/// Adds the front of the list of a thing that is pending: its time and its microstep.
+fn open_pending(text: &mut String, part: &PendingPart) -> Result<(), AllocError>
+    ensures { OnOk result (string_bytes text.new ≡ string_bytes text.old
+        ++ (codes "[" ++ signed_decimal part.now.time ++ (codes "," ++ signed_decimal part.now.microstep))) }
+{
+    text.push_str("[")?;
+    spell_number(text, part.time)?;
+    spell_further(text, part.microstep)
+}
+
+/// Adds the value of a thing that is pending, behind a comma.
+fn spell_value(text: &mut String, part: &PendingPart) -> Result<(), AllocError>
+    ensures { OnOk result
+        (string_bytes text.new ≡ string_bytes text.old ++ (codes "," ++ signed_decimal part.now.value)) }
+{
+    spell_further(text, part.value)
 }

@@ -5,7 +5,7 @@
 ghost use Rattle.std.specs.Prelude.{◌≡◌, ◌<◌, ◌^◌, true, IfOk, IfSome, length, map, get_or, []};
 ghost use Rattle.warp_step.specs.View.{program_of};
 ghost use Rattle.warp_prog.specs.inner.Circle.{is_circle, turns_back};
-ghost use Rattle.warp_prog.specs.Limits.{exceeds_limits};
+ghost use Rattle.warp_prog.specs.Exceeds.{exceeds_limits};
 ghost use Rattle.warp_prog.specs.Numbered.{unordered};
 ghost use Rattle.warp_prog.specs.Order.{stands_in};
 ghost use Rattle.warp_prog.specs.View.{file_tree};

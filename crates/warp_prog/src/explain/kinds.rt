@@ -12,6 +12,7 @@ pub(crate) struct Kinds {
     /// The kinds in words.
     pub words: &'static str,
     variables: bool,
+    arrays: bool,
     inputs: bool,
     outputs: bool,
     actions: bool,
@@ -21,6 +22,7 @@ pub(crate) struct Kinds {
 const NOTHING: Kinds = Kinds {
     words: "nothing",
     variables: false,
+    arrays: false,
     inputs: false,
     outputs: false,
     actions: false,
@@ -81,6 +83,24 @@ const INPUT: Kinds = Kinds {
     ..NOTHING
 };
 
+/// What has cells.
+const ARRAY: Kinds = Kinds {
+    words: "array",
+    arrays: true,
+    ..NOTHING
+};
+
+/// What people may call otherwise.
+const THING: Kinds = Kinds {
+    words: "variable, array, port, action or timer",
+    variables: true,
+    arrays: true,
+    inputs: true,
+    outputs: true,
+    actions: true,
+    timers: true,
+};
+
 /// The kinds of a role.
 pub(crate) fn kinds_of(role: Role) -> Kinds {
     match role {
@@ -91,17 +111,20 @@ pub(crate) fn kinds_of(role: Role) -> Kinds {
         Role::Action => ACTION,
         Role::Written => WRITTEN,
         Role::Input => INPUT,
+        Role::Array => ARRAY,
+        Role::Thing => THING,
     }
 }
 
 /// Compares a name with those of the reactor's things of these kinds.
 pub(crate) fn compare_all<'f>(nearest: &mut Nearest<'f>, reactor: &'f Reactor, kinds: &Kinds) {
     compare_each(nearest, kinds.variables, &reactor.variables);
+    compare_each(nearest, kinds.arrays, &reactor.arrays);
     compare_each(nearest, kinds.inputs, &reactor.inputs);
     compare_each(nearest, kinds.outputs, &reactor.outputs);
     compare_each(nearest, kinds.actions, &reactor.actions);
     compare_each(nearest, kinds.timers, &reactor.timers);
-    if kinds.timers {
+    if kinds.timers && !kinds.variables {
         nearest.compare("startup");
     }
 }
@@ -126,6 +149,9 @@ pub(crate) fn other_kind(reactor: &Reactor, role: Role, name: &Name) -> Option<&
     }
     if is_among(&reactor.variables, name) {
         return Some(other_variable(role));
+    }
+    if is_among(&reactor.arrays, name) {
+        return Some(other_array(role));
     }
     if is_among(&reactor.actions, name) {
         return Some(other_action(role));
@@ -156,7 +182,18 @@ fn other_variable(role: Role) -> &'static str {
         Role::Action => "a variable: write [\"set\", variable, expression]",
         Role::Cause => "a variable: it triggers nothing",
         Role::Written => "a variable: it needs no declaration",
+        Role::Array => "a variable, which has no cells",
         _ => "a variable",
+    }
+}
+
+fn other_array(role: Role) -> &'static str {
+    match role {
+        Role::Value => "an array: write [\"at\", array, expression]",
+        Role::Variable => "an array: write [\"setat\", array, expression, expression]",
+        Role::Cause => "an array: it triggers nothing",
+        Role::Written => "an array: it needs no declaration",
+        _ => "an array",
     }
 }
 

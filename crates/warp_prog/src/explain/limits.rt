@@ -3,19 +3,17 @@ ghost use Rattle.std.specs.Prelude.{◌≡◌, true};
 
 pub(crate) mod body;
 pub(crate) mod timers;
+pub(crate) mod work;
 
 use crate::explain::reason::Reason;
 use crate::explain::trail::{Segment, Trail};
 use crate::file::Reactor;
-use crate::limits::{
-    LimitedThings, MOST_ACTIONS, MOST_PORTS, MOST_REACTIONS, MOST_TIMERS, MOST_VARIABLES,
-    room_after,
-};
+use crate::limits::{LimitedThings, most_of, room_after};
+use warp_tag::Form;
 
-/// How many things of a kind all reactors together may have.
+/// Things of which all reactors together may have so many.
 struct Total {
     kind: LimitedThings,
-    most: usize,
     /// What they are, in words.
     things: &'static str,
 }
@@ -23,42 +21,46 @@ struct Total {
 const TOTALS: &[Total] = &[
     Total {
         kind: LimitedThings::Variables,
-        most: MOST_VARIABLES,
         things: "variables in the reactors up to here",
     },
     Total {
+        kind: LimitedThings::Arrays,
+        things: "arrays in the reactors up to here",
+    },
+    Total {
+        kind: LimitedThings::Cells,
+        things: "cells of arrays in the reactors up to here",
+    },
+    Total {
         kind: LimitedThings::Ports,
-        most: MOST_PORTS,
         things: "inputs and outputs in the reactors up to here",
     },
     Total {
         kind: LimitedThings::Actions,
-        most: MOST_ACTIONS,
         things: "actions in the reactors up to here",
     },
     Total {
         kind: LimitedThings::Timers,
-        most: MOST_TIMERS,
         things: "timers in the reactors up to here",
     },
     Total {
         kind: LimitedThings::Reactions,
-        most: MOST_REACTIONS,
         things: "reactions in the reactors up to here",
     },
 ];
 
-/// Notes the first reactor up to which there are too many things of a kind, where all together have too many. Always
-/// true.
-pub(crate) fn note_totals(reactors: &[Reactor], at: &mut Trail) -> bool
+/// Notes the first reactor up to which there are too many things of a kind for a file of this form, where all together
+/// have too many. Always true.
+pub(crate) fn note_totals(reactors: &[Reactor], form: Form, at: &mut Trail) -> bool
     ensures { result ≡ true }
 {
     let mut first = reactors.len();
     for total in TOTALS {
-        let place = place_past(reactors, &total.kind, total.most);
+        let most = most_of(&total.kind, form);
+        let place = place_past(reactors, &total.kind, most);
         if place < first {
             first = place;
-            let _found = at.fault(Reason::Many(total.things, total.most));
+            let _found = at.fault(Reason::Many(total.things, most));
         }
     }
     at.back(Segment::Of("reactors", first))

@@ -1,12 +1,14 @@
 //! What is told beforehand of a program that may make very many rows or outputs by itself.
 ghost use Rattle.std.specs.Prelude.{◌≡◌, ◌++◌, [], Bool, IfOk, OnOk, codes, string_bytes};
 ghost use Rattle.std.specs.Prelude.{if◌then◌else◌};
-ghost use Rattle.warp_prog.specs.OwnRows.{many_text, own_outputs, round_text, warning_text};
+ghost use Rattle.warp_prog.specs.OwnRows.{many_text, own_outputs, round_text, warning_text, work_text};
 
 use crate::due::own_rows;
+use crate::limits::work::Work;
 use std::alloc::{AllocError, Global};
 use warp_body::{Stmt, Target};
 use warp_step::{Action, Link, Program};
+use warp_tag::Form;
 
 /// A program that makes more rows or outputs than these by itself is warned of.
 const MANY: u64 = 1_000_000;
@@ -17,11 +19,18 @@ warning: startup and timers make more than 1,000,000 rows, which the first query
 const MANY_OUTPUTS: &str = "\
 warning: startup and timers may make more than 1,000,000 outputs, which the first query has to wait for\n";
 
+/// A program of version 4 whose timers walk more nodes than these by themselves is warned of: on a slow machine that is ten
+/// seconds.
+const MANY_NODES: u64 = 1_000_000_000;
+
+const LONG_WORK: &str = "\
+warning: what startup and timers make may be more work than 1,000,000,000, for which the first query has to wait\n";
+
 const ROUND: &str = "\
 warning: one time may have a row at each microstep: actions or links lead round without delay\n";
 
 /// How many outputs a program puts at most in the rows that it makes by itself: as many in each as it has. By its form
-/// these are at most 64,000,064, 640,000,064 or 1,000,000,000.
+/// these are at most 64,000,064, 640,000,064, 1,000,000,000 or 4,000,000,000.
 #[tactic(auto, using(crate::proofs::OwnLemmas::few_outputs))]
 pub(crate) fn own_outputs(program: &Program) -> u64
     ensures { result ≡ own_outputs program.now }
@@ -32,17 +41,19 @@ pub(crate) fn own_outputs(program: &Program) -> u64
 
 /// Warnings, a line each: of a program that makes more than 1,000,000 rows by itself, or outputs in them; and of one in
 /// which an action or a port leads back to itself without a delay, so that one time may have a row at each microstep.
-/// None for any other.
+/// And of one of version 4 whose reactions are so much work that these rows may take ten seconds. None for any other.
 ///
 /// # Errors
 ///
 /// Only where a growth was refused.
-pub fn rows_warning(alloc: Global, program: &Program) -> Result<String, AllocError>
-    ensures { IfOk result (λ text. (goes_round : Bool) × (string_bytes text ≡ warning_text program.now goes_round)) }
+pub fn rows_warning(alloc: Global, program: &Program, work: &Work) -> Result<String, AllocError>
+    ensures { IfOk result (λ text. (goes_round : Bool)
+        × (string_bytes text ≡ warning_text program.now work.now.all goes_round)) }
 {
     let mut text = String::new(alloc);
     let goes_round = leads_round(alloc, program)?;
     text.push_str(many_warning(program))?;
+    text.push_str(work_warning(program, work.all))?;
     text.push_str(round_warning(goes_round))?;
     Ok(text)
 }
@@ -58,6 +69,20 @@ fn many_warning(program: &Program) -> &'static str
         MANY_OUTPUTS
     } else {
         ""
+    }
+}
+
+/// The warning of a program of version 4 whose rows by itself may be so much work; empty for any other.
+fn work_warning(program: &Program, work: u64) -> &'static str
+    ensures { result.now ≡ work_text program.now work }
+{
+    match program.form() {
+        Form::One | Form::Two | Form::Three => "",
+        Form::Four => if own_rows(program).saturating_mul(work) > MANY_NODES {
+            LONG_WORK
+        } else {
+            ""
+        },
     }
 }
 
@@ -152,7 +177,7 @@ impl Marks {
     fn mark_body(&mut self, actions: &[Action], body: &[Stmt]) {
         for statement in body {
             match statement {
-                Stmt::Set(..) => {}
+                Stmt::Set(..) | Stmt::SetAt(..) => {}
                 Stmt::Put(port, _) => mark(&mut self.ports, *port),
                 Stmt::Schedule(action, delay, _) => {
                     if *delay == 0 && lacks_delay(actions, *action) {
@@ -163,6 +188,7 @@ impl Marks {
                     self.mark_body(actions, first);
                     self.mark_body(actions, second);
                 }
+                Stmt::While(_, _, body) => self.mark_body(actions, body),
             }
         }
     }

@@ -6,19 +6,42 @@ mod part;
 use crate::explain::reason::Reason;
 use crate::explain::shape::body::body_fails;
 use crate::explain::shape::part::{
-    ABOVE_REACTORS, BELOW_REACTORS, IN_REACTION, IN_REACTOR, Leaf, Part, fields_fail, list_fails,
+    ABOVE_REACTORS, BELOW_REACTORS, IN_BEGIN, IN_REACTION, IN_REACTOR, Leaf, Part, fields_fail,
+    list_fails,
 };
-use crate::explain::terms::{FILE, REACTION, REACTOR, Vocabulary};
+use crate::explain::terms::{BEGIN, REACTION, Vocabulary, file_keys, reactor_keys};
 use crate::explain::trail::{Segment, Trail};
+use crate::limits::LAST_VERSION;
 use crate::shape::json::is_one_of;
 use serde_json::Value;
 
 /// Whether a value is no file.
 pub(crate) fn shape_fails<'v>(value: &'v Value, at: &mut Trail<'v>) -> bool {
-    keys_fail(value, FILE, at)
+    let is_last = is_of_last_version(value);
+    keys_fail(value, file_keys(is_last), at)
         || fields_fail(value, ABOVE_REACTORS, at)
-        || reactors_fail(value, at)
+        || begin_fails(value, at)
+        || reactors_fail(value, is_last, at)
         || fields_fail(value, BELOW_REACTORS, at)
+}
+
+/// Whether a value says that it is a file of version 4.
+fn is_of_last_version(value: &Value) -> bool {
+    match value.get("version") {
+        Some(version) => version.as_i64() == Some(LAST_VERSION),
+        None => false,
+    }
+}
+
+/// Whether there is a beginning that is none.
+fn begin_fails<'v>(value: &'v Value, at: &mut Trail<'v>) -> bool {
+    match value.get("begin") {
+        Some(begin) => {
+            (keys_fail(begin, BEGIN, at) || fields_fail(begin, IN_BEGIN, at))
+                && at.back(Segment::Key("begin"))
+        }
+        None => false,
+    }
 }
 
 /// Whether a value is no object, or one of its keys is none of these.
@@ -35,7 +58,7 @@ fn keys_fail<'v>(value: &'v Value, keys: Vocabulary, at: &mut Trail<'v>) -> bool
 }
 
 /// Whether there is no list of reactors with one at least.
-fn reactors_fail<'v>(value: &'v Value, at: &mut Trail<'v>) -> bool {
+fn reactors_fail<'v>(value: &'v Value, is_last: bool, at: &mut Trail<'v>) -> bool {
     let segment = Segment::Key("reactors");
     let Some(found) = value.get("reactors") else {
         return at.fault(Reason::Missing("reactors"));
@@ -47,18 +70,20 @@ fn reactors_fail<'v>(value: &'v Value, at: &mut Trail<'v>) -> bool {
         return at.fault_at(segment, Reason::Plain("there is no reactor"));
     }
     for (i, reactor) in reactors.iter().enumerate() {
-        if reactor_fails(reactor, at) {
+        if reactor_fails(reactor, is_last, at) {
             return at.back(Segment::Of("reactors", i));
         }
     }
     false
 }
 
-fn reactor_fails<'v>(value: &'v Value, at: &mut Trail<'v>) -> bool {
-    keys_fail(value, REACTOR, at) || fields_fail(value, IN_REACTOR, at) || reactions_fail(value, at)
+fn reactor_fails<'v>(value: &'v Value, is_last: bool, at: &mut Trail<'v>) -> bool {
+    keys_fail(value, reactor_keys(is_last), at)
+        || fields_fail(value, IN_REACTOR, at)
+        || reactions_fail(value, is_last, at)
 }
 
-fn reactions_fail<'v>(value: &'v Value, at: &mut Trail<'v>) -> bool {
+fn reactions_fail<'v>(value: &'v Value, is_last: bool, at: &mut Trail<'v>) -> bool {
     let Some(found) = value.get("reactions") else {
         return false;
     };
@@ -69,14 +94,14 @@ fn reactions_fail<'v>(value: &'v Value, at: &mut Trail<'v>) -> bool {
         );
     };
     for (i, reaction) in reactions.iter().enumerate() {
-        if reaction_fails(reaction, at) {
+        if reaction_fails(reaction, is_last, at) {
             return at.back(Segment::Of("reactions", i));
         }
     }
     false
 }
 
-fn reaction_fails<'v>(value: &'v Value, at: &mut Trail<'v>) -> bool {
+fn reaction_fails<'v>(value: &'v Value, is_last: bool, at: &mut Trail<'v>) -> bool {
     if keys_fail(value, REACTION, at)
         || triggers_fail(value, at)
         || fields_fail(value, IN_REACTION, at)
@@ -84,7 +109,7 @@ fn reaction_fails<'v>(value: &'v Value, at: &mut Trail<'v>) -> bool {
         return true;
     }
     match value.get("body") {
-        Some(body) => body_fails(body, Segment::Key("body"), at),
+        Some(body) => body_fails(body, is_last, Segment::Key("body"), at),
         None => false,
     }
 }

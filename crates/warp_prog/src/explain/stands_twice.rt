@@ -3,11 +3,11 @@
 use crate::backward::place;
 use crate::explain::reason::Reason;
 use crate::explain::trail::{Segment, Trail};
-use crate::file::{LinkPart, PortName, ProgramFile, Reactor};
+use crate::file::{CalledPart, LinkPart, PortName, ProgramFile, Reactor};
 use crate::name::Name;
 use crate::named::{Named, is_among, is_startup};
 use crate::numbered::place::place_among;
-use crate::stands_twice::{Refers, is_same_port};
+use crate::stands_twice::{Refers, called_name, is_same_port};
 
 /// What is wrong with a port to which something leads a second time.
 const FED: &str = "has a source already";
@@ -55,10 +55,39 @@ fn reactor_fails<'f>(
 ) -> bool {
     name_fails(reactors, i, reactor, at)
         || list_fails(&reactor.variables, reactor, 0, "vars", at)
-        || list_fails(&reactor.inputs, reactor, 1, "inputs", at)
-        || list_fails(&reactor.outputs, reactor, 2, "outputs", at)
-        || list_fails(&reactor.actions, reactor, 3, "actions", at)
-        || list_fails(&reactor.timers, reactor, 4, "timers", at)
+        || list_fails(&reactor.arrays, reactor, 1, "arrays", at)
+        || list_fails(&reactor.inputs, reactor, 2, "inputs", at)
+        || list_fails(&reactor.outputs, reactor, 3, "outputs", at)
+        || list_fails(&reactor.actions, reactor, 4, "actions", at)
+        || list_fails(&reactor.timers, reactor, 5, "timers", at)
+        || called_fails(&reactor.called, at)
+        || hidden_fails(&reactor.hidden, at)
+}
+
+/// Whether a thing is called a second time.
+fn called_fails<'f>(called: &'f [CalledPart], at: &mut Trail<'f>) -> bool {
+    for (i, part) in called.iter().enumerate() {
+        let before = called.get(..i).unwrap_or(&[]);
+        if before
+            .iter()
+            .any(|other| called_name(other) == called_name(part))
+        {
+            let reason = Reason::Plain("this thing is called otherwise already");
+            return at.fault_at(Segment::Of("called", i), reason);
+        }
+    }
+    false
+}
+
+/// Whether a variable is hidden a second time.
+fn hidden_fails<'f>(hidden: &'f [Name], at: &mut Trail<'f>) -> bool {
+    for (i, name) in hidden.iter().enumerate() {
+        if place_among(hidden, name) < i {
+            let reason = Reason::Named(name, "is hidden already");
+            return at.fault_at(Segment::Of("hidden", i), reason);
+        }
+    }
+    false
 }
 
 /// Whether a name of the list under this key is `startup`, or stands before in the list or in the reactor's lists
@@ -89,9 +118,10 @@ fn list_fails<'f, T: Named>(
 /// Whether a name stands in one of the first so many lists of a reactor.
 fn is_in_lists(reactor: &Reactor, lists: usize, name: &Name) -> bool {
     (lists > 0 && is_among(&reactor.variables, name))
-        || (lists > 1 && is_among(&reactor.inputs, name))
-        || (lists > 2 && is_among(&reactor.outputs, name))
-        || (lists > 3 && is_among(&reactor.actions, name))
+        || (lists > 1 && is_among(&reactor.arrays, name))
+        || (lists > 2 && is_among(&reactor.inputs, name))
+        || (lists > 3 && is_among(&reactor.outputs, name))
+        || (lists > 4 && is_among(&reactor.actions, name))
 }
 
 /// The place of the first of the things that refers to this port; how many there are where none does.

@@ -19,7 +19,7 @@ pub(crate) struct Foreign {
 }
 
 /// The keys of a file.
-pub(crate) const FILE: Vocabulary = Vocabulary {
+const FILE: Vocabulary = Vocabulary {
     kind: "no key of a program file",
     words: &[
         "version", "stop", "origins", "reactors", "links", "inputs", "outputs",
@@ -28,7 +28,7 @@ pub(crate) const FILE: Vocabulary = Vocabulary {
 };
 
 /// The keys of a reactor.
-pub(crate) const REACTOR: Vocabulary = Vocabulary {
+const REACTOR: Vocabulary = Vocabulary {
     kind: "no key of a reactor",
     words: &[
         "name",
@@ -42,6 +42,62 @@ pub(crate) const REACTOR: Vocabulary = Vocabulary {
     foreign: &[],
 };
 
+/// The keys of a file of version 4.
+const LATER_FILE: Vocabulary = Vocabulary {
+    words: &[
+        "version", "stop", "origins", "begin", "reactors", "links", "inputs", "outputs",
+    ],
+    ..FILE
+};
+
+/// The keys of a reactor of version 4.
+const LATER_REACTOR: Vocabulary = Vocabulary {
+    words: &[
+        "name",
+        "vars",
+        "arrays",
+        "inputs",
+        "outputs",
+        "actions",
+        "timers",
+        "reactions",
+        "called",
+        "hidden",
+    ],
+    ..REACTOR
+};
+
+/// The keys of a beginning.
+pub(crate) const BEGIN: Vocabulary = Vocabulary {
+    kind: "no key of a beginning",
+    words: &["pending", "lost", "since"],
+    foreign: &[],
+};
+
+/// The keys of a file of version 4, or of another one.
+pub(crate) fn file_keys(is_last: bool) -> Vocabulary {
+    if is_last { LATER_FILE } else { FILE }
+}
+
+/// The keys of a reactor in such a file.
+pub(crate) fn reactor_keys(is_last: bool) -> Vocabulary {
+    if is_last { LATER_REACTOR } else { REACTOR }
+}
+
+/// The first words of statements in such a file.
+pub(crate) fn statements(is_last: bool) -> Vocabulary {
+    if is_last {
+        LATER_STATEMENTS
+    } else {
+        STATEMENTS
+    }
+}
+
+/// The first words of expressions in such a file.
+pub(crate) fn operators(is_last: bool) -> Vocabulary {
+    if is_last { LATER_OPERATORS } else { OPERATORS }
+}
+
 /// The keys of a reaction.
 pub(crate) const REACTION: Vocabulary = Vocabulary {
     kind: "no key of a reaction",
@@ -50,7 +106,7 @@ pub(crate) const REACTION: Vocabulary = Vocabulary {
 };
 
 /// The first words of statements.
-pub(crate) const STATEMENTS: Vocabulary = Vocabulary {
+const STATEMENTS: Vocabulary = Vocabulary {
     kind: "no statement",
     words: &["set", "put", "schedule", "if"],
     foreign: &[
@@ -66,7 +122,7 @@ pub(crate) const STATEMENTS: Vocabulary = Vocabulary {
 };
 
 /// The first words of expressions that are longer than a byte.
-pub(crate) const OPERATORS: Vocabulary = Vocabulary {
+const OPERATORS: Vocabulary = Vocabulary {
     kind: "no operator",
     words: &["neg", "not", "and", "or", "if", "present"],
     foreign: &[
@@ -117,6 +173,59 @@ pub(crate) const OPERATORS: Vocabulary = Vocabulary {
     ],
 };
 
+/// The first words of statements of version 4.
+const LATER_STATEMENTS: Vocabulary = Vocabulary {
+    words: &["set", "put", "schedule", "if", "setat", "while"],
+    ..STATEMENTS
+};
+
+/// The first words of expressions of version 4 that are longer than a byte.
+const LATER_OPERATORS: Vocabulary = Vocabulary {
+    kind: "no operator",
+    words: &[
+        "neg", "not", "and", "or", "if", "present", "min", "max", "abs", "mix", "muldiv", "at",
+        "time", "micro",
+    ],
+    foreign: &[
+        Foreign {
+            word: ">",
+            write: "[\"<\", b, a]",
+        },
+        Foreign {
+            word: "<=",
+            write: "[\"not\", [\"<\", b, a]]",
+        },
+        Foreign {
+            word: ">=",
+            write: "[\"not\", [\"<\", a, b]]",
+        },
+        Foreign {
+            word: "==",
+            write: "[\"=\", a, b]",
+        },
+        Foreign {
+            word: "!=",
+            write: "[\"not\", [\"=\", a, b]]",
+        },
+        Foreign {
+            word: "&&",
+            write: "[\"and\", a, b]",
+        },
+        Foreign {
+            word: "||",
+            write: "[\"or\", a, b]",
+        },
+        Foreign {
+            word: "!",
+            write: "[\"not\", a]",
+        },
+        Foreign {
+            word: "~",
+            write: "[\"^\", a, -1]",
+        },
+    ],
+};
+
 impl Vocabulary {
     /// What to write in the place of a word of other languages.
     pub(crate) fn instead_of(self, word: &str) -> Option<&'static str> {
@@ -129,12 +238,24 @@ impl Vocabulary {
     }
 }
 
-/// How many parts stand behind the first word of an expression.
-pub(crate) fn operands(word: &str) -> Option<usize> {
+/// How many parts stand behind the first word of an expression of a file of version 4, or of another one.
+pub(crate) fn operands(word: &str, is_last: bool) -> Option<usize> {
     match word {
         "neg" | "not" | "present" => Some(1),
         "+" | "-" | "*" | "/" | "%" | "=" | "<" | "and" | "or" => Some(2),
         "if" => Some(3),
+        _ if is_last => later_operands(word),
+        _ => None,
+    }
+}
+
+/// The same of those that came with version 4.
+fn later_operands(word: &str) -> Option<usize> {
+    match word {
+        "time" | "micro" => Some(0),
+        "abs" => Some(1),
+        "min" | "max" | "&" | "|" | "^" | "<<" | ">>" | "mix" | "at" => Some(2),
+        "muldiv" => Some(3),
         _ => None,
     }
 }

@@ -13,7 +13,7 @@ use serde_json::Value;
 use std::alloc::{AllocError, Global};
 
 /// Warnings of the program that the bytes of a file spell, a line each with its place: of an origin without inputs, a
-/// variable that no reaction of its reactor reads, an output that leads nowhere, and a reaction that never runs. None
+/// variable or an array that no reaction of its reactor reads, an output that leads nowhere, and a reaction that never runs. None
 /// where the bytes are no program file.
 ///
 /// # Errors
@@ -102,6 +102,7 @@ fn has_input(inputs: &[InputPart], origin: i64) -> bool {
 fn warn_of_reactors(told: &mut Told<'_>, file: &ProgramFile) -> Result<(), AllocError> {
     for (i, reactor) in file.reactors.iter().enumerate() {
         warn_of_variables(told, i, reactor)?;
+        warn_of_arrays(told, i, reactor)?;
         warn_of_outputs(told, file, i, reactor)?;
         warn_of_reactions(told, file, i, reactor)?;
     }
@@ -113,6 +114,16 @@ fn warn_of_variables(told: &mut Told<'_>, i: usize, reactor: &Reactor) -> Result
         if !is_read(&reactor.reactions, &variable.name) {
             let words = "is never read by a reaction (it can be asked for from outside)";
             told.tell_in(i, "vars", number, Reason::Named(&variable.name, words))?;
+        }
+    }
+    Ok(())
+}
+
+fn warn_of_arrays(told: &mut Told<'_>, i: usize, reactor: &Reactor) -> Result<(), AllocError> {
+    for (number, array) in reactor.arrays.iter().enumerate() {
+        if !is_read(&reactor.reactions, &array.name) {
+            let words = "is never read by a reaction (it can be asked for from outside)";
+            told.tell_in(i, "arrays", number, Reason::Named(&array.name, words))?;
         }
     }
     Ok(())
@@ -243,16 +254,20 @@ fn statement_reads(statement: &Statement, name: &Name) -> bool {
         Statement::If(test, first, second) => {
             term_reads(test, name) || body_reads(first, name) || body_reads(second, name)
         }
+        Statement::SetAt(_, index, term) => term_reads(index, name) || term_reads(term, name),
+        Statement::While(_, test, turn) => term_reads(test, name) || body_reads(turn, name),
     }
 }
 
 fn term_reads(term: &Expression, name: &Name) -> bool {
     match term {
-        Expression::Number(_) | Expression::Present(_) => false,
+        Expression::Number(_) | Expression::Present(_) | Expression::Time | Expression::Microstep =>
+            false,
         Expression::Value(read) => is_same(read, name),
         Expression::Unary(_, a) => term_reads(a, name),
+        Expression::At(read, index) => is_same(read, name) || term_reads(index, name),
         Expression::Binary(_, a, b) => term_reads(a, name) || term_reads(b, name),
-        Expression::If(test, a, b) => {
+        Expression::If(test, a, b) | Expression::MultiplyDivide(test, a, b) => {
             term_reads(test, name) || term_reads(a, name) || term_reads(b, name)
         }
     }

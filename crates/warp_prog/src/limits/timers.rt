@@ -1,4 +1,5 @@
-//! Files whose timers may put more outputs by themselves than a run should hold. Only those of version 3 have this limit.
+//! Files whose timers may put more outputs by themselves than a run should hold. Those of versions 1
+//! and 2 have not this limit.
 ghost use Rattle.std.specs.Prelude.{◌≡◌, ◌≤◌, ◌-◌, ◌/◌, length, map, max, nat_lt, SomeIff};
 ghost use Rattle.warp_prog.specs.Limits.{most_own, times_due, all_due, total, due_exceeds, timers_exceed};
 ghost use Rattle.warp_prog.specs.View.{file_tree, reactor_tree};
@@ -18,7 +19,7 @@ pub(crate) fn timers_exceed(file: &ProgramFile, at: &mut Trail) -> bool
 {
     match form_of_version(file.version) {
         Form::One | Form::Two => false,
-        Form::Three => due_exceeds(file, at),
+        Form::Three | Form::Four => due_exceeds(file, at),
     }
 }
 

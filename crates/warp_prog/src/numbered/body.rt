@@ -1,15 +1,17 @@
 //! Bodies with numbers in the place of names.
-ghost use Rattle.std.specs.Prelude.{◌≡◌, IfOk, map};
-ghost use Rattle.warp_body.specs.Effect.{Body, Choose, statement_of, statements_of};
-ghost use Rattle.warp_body.specs.Term.{Term, OfTwo, Choice, term_of};
+ghost use Rattle.std.specs.Prelude.{◌≡◌, IfOk, false, map};
+ghost use Rattle.warp_body.specs.Effect.{Body, Choose, Repeat, statement_of, statements_of};
+ghost use Rattle.warp_body.specs.Term.{Term, OfTwo, Choice, ProductOver, term_of};
 ghost use Rattle.warp_prog.specs.File.{Named};
 ghost use Rattle.warp_prog.specs.Numbered.{numbered_term, numbered_statement, numbered_body};
-ghost use Rattle.warp_prog.specs.inner.Room.{HasRoom};
+ghost use Rattle.warp_prog.specs.inner.Room.{HasRoom, loop_exceeds, loops_exceed};
 ghost use Rattle.warp_prog.specs.View.{reactor_tree, term_tree, statement_tree, body_tree};
 
 use crate::file::{Expression, Reactor, Statement};
 use crate::name::Name;
-use crate::numbered::place::{action_number, output_number, place_of, readable, variable_number};
+use crate::numbered::place::{
+    action_number, cells_named, output_number, place_of, readable, variable_number,
+};
 use crate::scope::Before;
 use crate::two_results::both;
 use std::alloc::Global;
@@ -65,6 +67,21 @@ fn with_three(
     Ok(Expr::If(test, first, second))
 }
 
+/// A product over a divisor, if all three parts were numbered.
+fn product_over(
+    alloc: Global,
+    first: Result<Expr, OutOfMemory>,
+    second: Result<Expr, OutOfMemory>,
+    divisor: Result<Expr, OutOfMemory>,
+) -> Result<Expr, OutOfMemory>
+    ensures { (a b c : Term) → IfOk first (λ e. term_of e ≡ a) → IfOk second (λ e. term_of e ≡ b)
+        → IfOk divisor (λ e. term_of e ≡ c) → IfOk result (λ e. term_of e ≡ ProductOver a b c) }
+{
+    let parts = both(boxed(alloc, second), boxed(alloc, divisor));
+    let (first, (second, divisor)) = both(boxed(alloc, first), parts)?;
+    Ok(Expr::MultiplyDivide(first, second, divisor))
+}
+
 fn numbered_term(
     alloc: Global,
     before: &Before,
@@ -87,6 +104,19 @@ fn numbered_term(
             let b = numbered_term(alloc, before, reactor, b);
             with_two(alloc, *operator, a, b)
         }
+        Expression::MultiplyDivide(a, b, c) => {
+            let a = numbered_term(alloc, before, reactor, a);
+            let b = numbered_term(alloc, before, reactor, b);
+            let c = numbered_term(alloc, before, reactor, c);
+            product_over(alloc, a, b, c)
+        }
+        Expression::At(name, index) => {
+            let cells = cells_named(before, reactor, name);
+            let index = boxed(alloc, numbered_term(alloc, before, reactor, index))?;
+            Ok(Expr::At(cells.first, cells.count, index))
+        }
+        Expression::Time => Ok(Expr::Time),
+        Expression::Microstep => Ok(Expr::Microstep),
         Expression::If(condition, a, b) => {
             let condition = numbered_term(alloc, before, reactor, condition);
             let a = numbered_term(alloc, before, reactor, a);
@@ -111,6 +141,19 @@ fn choice(
     Ok(Stmt::If(condition, first, second))
 }
 
+/// A loop of so many turns at most, if all of it was numbered.
+fn repeat(
+    most: u32,
+    test: Result<Expr, OutOfMemory>,
+    turn: Result<Vec<Stmt>, OutOfMemory>,
+) -> Result<Stmt, OutOfMemory>
+    ensures { (c : Term) (b : Body) → IfOk test (λ e. term_of e ≡ c)
+        → IfOk turn (λ ss. statements_of ss.items ≡ b) → IfOk result (λ s. statement_of s ≡ Repeat most c b) }
+{
+    let (test, turn) = both(test, turn)?;
+    Ok(Stmt::While(most, test, turn))
+}
+
 #[cycle(numbered_statement)]
 fn numbered_statement(
     alloc: Global,
@@ -118,7 +161,8 @@ fn numbered_statement(
     reactor: &Reactor,
     statement: &Statement,
 ) -> Result<Stmt, OutOfMemory>
-    requires { HasRoom before.now (reactor_tree reactor.now) }
+    requires room { HasRoom before.now (reactor_tree reactor.now) }
+    requires loops { loop_exceeds (statement_tree statement.now) ≡ false }
     ensures { let r = reactor_tree reactor.now in
         IfOk result (λ s. statement_of s ≡ numbered_statement before.now r (statement_tree statement.now)) }
 {
@@ -145,6 +189,17 @@ fn numbered_statement(
             let second = numbered_body(alloc, before, reactor, second);
             choice(condition, first, second)
         }
+        Statement::SetAt(name, index, term) => {
+            let cells = cells_named(before, reactor, name);
+            let index = numbered_term(alloc, before, reactor, index)?;
+            let value = numbered_term(alloc, before, reactor, term)?;
+            Ok(Stmt::SetAt(cells.first, cells.count, index, value))
+        }
+        Statement::While(most, test, turn) => {
+            let test = numbered_term(alloc, before, reactor, test);
+            let turn = numbered_body(alloc, before, reactor, turn);
+            repeat(most.unsigned_abs() as u32, test, turn)
+        }
     }
 }
 
@@ -156,7 +211,8 @@ pub(crate) fn numbered_body(
     reactor: &Reactor,
     body: &[Statement],
 ) -> Result<Vec<Stmt>, OutOfMemory>
-    requires { HasRoom before.now (reactor_tree reactor.now) }
+    requires room { HasRoom before.now (reactor_tree reactor.now) }
+    requires loops { loops_exceed (body_tree (map statement_tree body.now)) ≡ false }
     ensures { let r = reactor_tree reactor.now in
         IfOk result
         (λ ss. statements_of ss.items ≡ numbered_body before.now r (body_tree (map statement_tree body.now))) }

@@ -3,24 +3,27 @@ ghost use Rattle.std.specs.Prelude.{◌≡◌, ◌≤◌, length, map, is_some, 
 ghost use Rattle.warp_body.specs.declared.place.Target.TheVariants.{Startup, Timer, Action};
 ghost use Rattle.warp_prog.specs.Numbered.{nothing_before, past, place_among, variable_number, input_number};
 ghost use Rattle.warp_prog.specs.Numbered.{output_number, action_number, timer_number, readable, writable};
-ghost use Rattle.warp_prog.specs.Numbered.{source_number, target_number};
+ghost use Rattle.warp_prog.specs.Numbered.{cell_count, first_cell, source_number, target_number};
+ghost use Rattle.warp_prog.specs.Limits.{cells_of};
+ghost use Rattle.warp_tag.specs.Limits.{most_variables, widest};
 ghost use Rattle.warp_prog.specs.inner.Room.{HasRoom, HaveRoom};
 ghost use Rattle.warp_prog.specs.Uses.{is_among, action_names, timer_names};
-ghost use Rattle.warp_prog.specs.View.{reactor_tree};
+ghost use Rattle.warp_prog.specs.View.{array_tree, reactor_tree};
 
-use crate::file::{PortName, Reactor};
+use crate::file::{Array, PortName, Reactor};
 use crate::name::Name;
 use crate::named::{Named, is_same};
 use crate::scope::Before;
 use warp_body::Target;
 
-/// What stands before the first reactor: nothing.
-pub(crate) fn nothing_before() -> Before
-    ensures { result ≡ nothing_before }
+/// What stands before the first reactor: nothing. Cells are numbered behind all variables, which are so many.
+pub(crate) fn nothing_before(variables: usize) -> Before
+    ensures { result ≡ nothing_before variables }
 {
     Before {
         reactors: 0,
         variables: 0,
+        cells: variables,
         ports: 0,
         actions: 0,
         timers: 0,
@@ -35,9 +38,52 @@ pub(crate) fn past(before: &Before, reactor: &Reactor) -> Before
     Before {
         reactors: before.reactors + 1,
         variables: before.variables + reactor.variables.len(),
+        cells: before.cells + cells_of(&reactor.arrays),
         ports: before.ports + (reactor.inputs.len() + reactor.outputs.len()),
         actions: before.actions + reactor.actions.len(),
         timers: before.timers + reactor.timers.len(),
+    }
+}
+
+/// How many cells these arrays have together.
+fn cells_of(arrays: &[Array]) -> usize
+    requires { cells_of (map array_tree arrays.now) ≤ most_variables widest }
+    ensures { result ≡ cells_of (map array_tree arrays.now) }
+{
+    let mut cells = 0;
+    for array in arrays {
+        cells += array.count.unsigned_abs() as usize;
+    }
+    cells
+}
+
+/// The cells of an array: the number of the first one, and how many there are.
+#[derive(Clone, Copy)]
+pub(crate) struct Cells {
+    pub(crate) first: u32,
+    pub(crate) count: u32,
+}
+
+/// The cells of the array of a reactor that has this name.
+pub(crate) fn cells_named(before: &Before, reactor: &Reactor, name: &Name) -> Cells
+    requires { HasRoom before.now (reactor_tree reactor.now) }
+    ensures first { result.first ≡ first_cell before.now (reactor_tree reactor.now) name.now }
+    ensures count { result.count ≡ cell_count (reactor_tree reactor.now) name.now }
+{
+    let mut first = before.cells;
+    for array in &reactor.arrays {
+        let count = array.count.unsigned_abs() as usize;
+        if is_same(name, &array.name) {
+            return Cells {
+                first: first as u32,
+                count: count as u32,
+            };
+        }
+        first += count;
+    }
+    Cells {
+        first: first as u32,
+        count: 0,
     }
 }
 
@@ -149,10 +195,10 @@ pub(crate) fn writable(before: &Before, reactor: &Reactor, name: &Name) -> Targe
 
 /// The number of the output that a reference names; 0 where no reactor has its name.
 pub(crate) fn source_number(reactors: &[Reactor], port: &PortName) -> u32
-    requires { HaveRoom nothing_before (map reactor_tree reactors.now) }
+    requires { HaveRoom (nothing_before 0) (map reactor_tree reactors.now) }
     ensures { result ≡ source_number (map reactor_tree reactors.now) port.now }
 {
-    let mut before = nothing_before();
+    let mut before = nothing_before(0);
     for reactor in reactors {
         if is_same(&port.reactor, &reactor.name) {
             return output_number(&before, reactor, &port.port);
@@ -164,10 +210,10 @@ pub(crate) fn source_number(reactors: &[Reactor], port: &PortName) -> u32
 
 /// The number of the input that a reference names; 0 where no reactor has its name.
 pub(crate) fn target_number(reactors: &[Reactor], port: &PortName) -> u32
-    requires { HaveRoom nothing_before (map reactor_tree reactors.now) }
+    requires { HaveRoom (nothing_before 0) (map reactor_tree reactors.now) }
     ensures { result ≡ target_number (map reactor_tree reactors.now) port.now }
 {
-    let mut before = nothing_before();
+    let mut before = nothing_before(0);
     for reactor in reactors {
         if is_same(&port.reactor, &reactor.name) {
             return input_number(&before, reactor, &port.port);

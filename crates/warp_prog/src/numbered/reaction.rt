@@ -1,9 +1,9 @@
 //! Reactions with numbers in the place of names.
-ghost use Rattle.std.specs.Prelude.{◌≡◌, ◌++◌, ◌∷◌, [], IfOk, OnOk, map, if◌then◌else◌};
+ghost use Rattle.std.specs.Prelude.{◌≡◌, ◌++◌, ◌∷◌, [], IfOk, OnOk, false, map, if◌then◌else◌};
 ghost use Rattle.warp_step.specs.Program.{rule_of};
 ghost use Rattle.warp_step.specs.Valid.{names};
 ghost use Rattle.warp_prog.specs.Numbered.{readable, writable, once, numbered_reaction};
-ghost use Rattle.warp_prog.specs.inner.Room.{HasRoom};
+ghost use Rattle.warp_prog.specs.inner.Room.{HasRoom, loops_exceed};
 ghost use Rattle.warp_prog.specs.View.{reactor_tree, reaction_tree};
 
 use crate::file::{Reaction, Reactor};
@@ -79,7 +79,8 @@ pub(crate) fn numbered_reaction(
     reactor: &Reactor,
     reaction: &Reaction,
 ) -> Result<warp_step::Reaction, OutOfMemory>
-    requires { HasRoom before.now (reactor_tree reactor.now) }
+    requires room { HasRoom before.now (reactor_tree reactor.now) }
+    requires loops { loops_exceed (reaction_tree reaction.now).body ≡ false }
     ensures { let r = reactor_tree reactor.now in
         IfOk result (λ n. rule_of n ≡ numbered_reaction before.now r (reaction_tree reaction.now)) }
 {

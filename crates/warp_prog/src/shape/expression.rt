@@ -3,7 +3,7 @@ ghost use Rattle.std.specs.Prelude.{◌≡◌, Option, Some, None, IfOk, Err, op
 ghost use Rattle.serde_json.specs.Data.{array};
 ghost use Rattle.serde_json.specs.View.{view, items_view};
 ghost use Rattle.warp_prog.specs.File.{NamedTerm, PresentNamed};
-ghost use Rattle.warp_prog.specs.Terms.{unary_of, binary_of, term_of};
+ghost use Rattle.warp_prog.specs.Terms.{unary_of, binary_of, cell_named, of_none, term_of};
 ghost use Rattle.warp_prog.specs.View.{term_tree};
 ghost use Rattle.warp_prog.specs.Word.{name_at};
 ghost use Rattle.warp_prog.specs.inner.Read.{IsRead, with_one, with_two, with_three};
@@ -24,6 +24,7 @@ fn unary_operator(word: &str) -> Option<UnaryOperator>
     match word {
         "neg" => Some(UnaryOperator::Negate),
         "not" => Some(UnaryOperator::Not),
+        "abs" => Some(UnaryOperator::Absolute),
         _ => None,
     }
 }
@@ -41,8 +42,43 @@ fn binary_operator(word: &str) -> Option<BinaryOperator>
         b"<" => Some(BinaryOperator::Less),
         b"and" => Some(BinaryOperator::And),
         b"or" => Some(BinaryOperator::Or),
+        b"min" => Some(BinaryOperator::Minimum),
+        b"max" => Some(BinaryOperator::Maximum),
+        b"&" => Some(BinaryOperator::BitAnd),
+        b"|" => Some(BinaryOperator::BitOr),
+        b"^" => Some(BinaryOperator::BitXor),
+        b"<<" => Some(BinaryOperator::ShiftLeft),
+        b">>" => Some(BinaryOperator::ShiftRight),
+        b"mix" => Some(BinaryOperator::Mix),
         _ => None,
     }
+}
+
+/// What a word says without parts: the time or the microstep of the tag that is executed.
+fn with_none(word: &str) -> Result<Expression, Misread>
+    ensures { IsRead term_tree result (of_none word.now) }
+{
+    match word {
+        "time" => Ok(Expression::Time),
+        "micro" => Ok(Expression::Microstep),
+        _ => Err(Misread::Shape),
+    }
+}
+
+/// A cell of the array whose name a value is, if its number was read.
+fn with_cell(
+    alloc: Global,
+    name: &Value,
+    index: Result<Expression, Misread>,
+) -> Result<Expression, Misread>
+    ensures { (i : Option NamedTerm) → IsRead term_tree index i
+        → IsRead term_tree result (cell_named (name_at (view name.now)) i) }
+{
+    let index = boxed(alloc, index)?;
+    let Some(name) = name_at(name) else {
+        return Err(Misread::Shape);
+    };
+    Ok(Expression::At(name, index))
 }
 
 /// Whether what has the name that a value is is present.
@@ -96,7 +132,7 @@ fn with_two(
     }
 }
 
-/// A choice, if all three parts were read.
+/// A choice or a product over a divisor, if all three parts were read.
 fn with_three(
     alloc: Global,
     word: &str,
@@ -109,10 +145,10 @@ fn with_three(
 {
     let parts = both(boxed(alloc, first), boxed(alloc, second));
     let (test, (first, second)) = both(boxed(alloc, test), parts)?;
-    if word == "if" {
-        Ok(Expression::If(test, first, second))
-    } else {
-        Err(Misread::Shape)
+    match word {
+        "if" => Ok(Expression::If(test, first, second)),
+        "muldiv" => Ok(Expression::MultiplyDivide(test, first, second)),
+        _ => Err(Misread::Shape),
     }
 }
 
@@ -126,6 +162,7 @@ fn parts(alloc: Global, items: &[Value]) -> Result<Expression, Misread>
         return Err(Misread::Shape);
     };
     match items {
+        [_] => with_none(word),
         [_, part] => {
             if word == "present" {
                 return presence(part);
@@ -134,6 +171,10 @@ fn parts(alloc: Global, items: &[Value]) -> Result<Expression, Misread>
             with_one(alloc, word, part)
         }
         [_, first, second] => {
+            if word == "at" {
+                let index = expression(alloc, second);
+                return with_cell(alloc, first, index);
+            }
             let first = expression(alloc, first);
             let second = expression(alloc, second);
             with_two(alloc, word, first, second)
@@ -145,7 +186,6 @@ fn parts(alloc: Global, items: &[Value]) -> Result<Expression, Misread>
             with_three(alloc, word, test, first, second)
         }
         [] => Err(Misread::Shape),
-        [_] => Err(Misread::Shape),
         [_, _, _, _, _, ..] => Err(Misread::Shape),
     }
 }

@@ -3,7 +3,7 @@ ghost use Rattle.std.specs.Prelude.{◌≡◌, List, Option, Some, None, IfOk, E
 ghost use Rattle.serde_json.specs.Data.{Data};
 ghost use Rattle.serde_json.specs.Find.{get};
 ghost use Rattle.serde_json.specs.View.{view, items_view, members_view};
-ghost use Rattle.warp_prog.specs.Json.{is_one_of, are_keys, has_only, items_at, each, list_at, pair_of, triple_of};
+ghost use Rattle.warp_prog.specs.Json.{is_one_of, are_keys, has_only, items_at, each, list_at, four_of, pair_of, triple_of};
 ghost use Rattle.warp_prog.specs.inner.Read.{first_word};
 
 use crate::misread::Misread;
@@ -102,6 +102,18 @@ pub(crate) fn pair(value: &Value) -> Option<(&Value, &Value)>
 {
     match value.as_array()?.as_slice() {
         [a, b] => Some((a, b)),
+        _ => None,
+    }
+}
+
+/// The four values of a list of four.
+#[tactic(auto, using(crate::proofs::ItemLemmas::not_four))]
+pub(crate) fn four(value: &Value) -> Option<(&Value, &Value, &Value, &Value)>
+    ensures { option_map (λ p. (view p.0.now, view p.1.now, view p.2.now, view p.3.now)) result
+        ≡ four_of (view value.now) }
+{
+    match value.as_array()?.as_slice() {
+        [a, b, c, d] => Some((a, b, c, d)),
         _ => None,
     }
 }

@@ -4,12 +4,13 @@ ghost use Rattle.serde_json.specs.Find.{get};
 ghost use Rattle.serde_json.specs.View.{view, items_view};
 ghost use Rattle.warp_prog.specs.Json.{each, has_only, list_at, unless_empty};
 ghost use Rattle.warp_prog.specs.Word.{name_at};
-ghost use Rattle.warp_prog.specs.Shape.{reaction_of, reactor_keys, reactor_of};
+ghost use Rattle.warp_prog.specs.Shape.{first_reactor_keys, have_first_keys, reaction_of, reactor_keys, reactor_of};
 ghost use Rattle.warp_prog.specs.View.{reaction_tree, reactor_tree};
 
 use crate::file::{Reaction, Reactor};
 use crate::misread::Misread;
 use crate::name::Name;
+use crate::shape::array::arrays_at;
 use crate::shape::json::{has_only, items, list};
 use crate::shape::reaction::reactions;
 use crate::shape::word::name_at;
@@ -42,6 +43,25 @@ fn has_reactor_keys(value: &Value) -> bool
     let keys = [
         "name",
         "vars",
+        "arrays",
+        "inputs",
+        "outputs",
+        "actions",
+        "timers",
+        "reactions",
+        "called",
+        "hidden",
+    ];
+    has_only(value, &keys)
+}
+
+/// Whether they are all among those that a reactor of any version may have.
+fn has_first_keys(value: &Value) -> bool
+    ensures { result ≡ has_only first_reactor_keys (view value.now) }
+{
+    let keys = [
+        "name",
+        "vars",
         "inputs",
         "outputs",
         "actions",
@@ -49,6 +69,18 @@ fn has_reactor_keys(value: &Value) -> bool
         "reactions",
     ];
     has_only(value, &keys)
+}
+
+/// Whether these are reactors with no key that came with version 4.
+pub(crate) fn have_first_keys(items: &[Value]) -> bool
+    ensures { result ≡ have_first_keys (items_view items.now) }
+{
+    for item in items {
+        if !has_first_keys(item) {
+            return false;
+        }
+    }
+    true
 }
 
 /// The reactor that a value is.
@@ -64,19 +96,25 @@ fn reactor(alloc: Global, value: &Value) -> Result<Reactor, Misread>
         return Err(Misread::Shape);
     };
     let variables = list(alloc, value, "vars")?;
+    let arrays = arrays_at(alloc, value)?;
     let inputs = list(alloc, value, "inputs")?;
     let outputs = list(alloc, value, "outputs")?;
     let actions = list(alloc, value, "actions")?;
     let timers = list(alloc, value, "timers")?;
     let reactions = reactions_at(alloc, value)?;
+    let called = list(alloc, value, "called")?;
+    let hidden = list(alloc, value, "hidden")?;
     Ok(Reactor {
         name,
         variables,
+        arrays,
         inputs,
         outputs,
         actions,
         timers,
         reactions,
+        called,
+        hidden,
     })
 }
 

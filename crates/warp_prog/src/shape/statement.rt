@@ -3,6 +3,7 @@ ghost use Rattle.std.specs.Prelude.{◌≡◌, Option, Some, None, IfOk, Err, op
 ghost use Rattle.serde_json.specs.Data.{array};
 ghost use Rattle.serde_json.specs.View.{view, items_view};
 ghost use Rattle.warp_prog.specs.Statements.{assignment, assignment_of, scheduling_of, choice_of, statement_of};
+ghost use Rattle.warp_prog.specs.Statements.{cell_set_of, loop_of};
 ghost use Rattle.warp_prog.specs.Statements.{body_of, statements_of};
 ghost use Rattle.warp_prog.specs.File.{NamedBody};
 ghost use Rattle.warp_prog.specs.View.{term_tree, statement_tree, body_tree};
@@ -87,6 +88,43 @@ fn choose(
     Ok(Statement::If(test, first, second))
 }
 
+/// `["setat", array, expression, expression]`.
+#[tactic(auto, unfolding(crate::specs::Statements::cell_set_of))]
+fn set_cell(
+    alloc: Global,
+    array: &Value,
+    index: &Value,
+    value: &Value,
+) -> Result<Statement, Misread>
+    ensures ok { IfOk result
+        (λ s. cell_set_of (view array.now) (view index.now) (view value.now) ≡ Some (statement_tree s)) }
+    ensures err { result ≡ Err Misread.Shape → cell_set_of (view array.now) (view index.now) (view value.now) ≡ None }
+{
+    let Some(array) = name_at(array) else {
+        return Err(Misread::Shape);
+    };
+    let (index, value) = both(expression(alloc, index), expression(alloc, value))?;
+    Ok(Statement::SetAt(array, index, value))
+}
+
+/// `["while", most, expression, [..]]`, of what the list is read as.
+#[tactic(auto, unfolding(crate::specs::Statements::loop_of))]
+fn turns(
+    alloc: Global,
+    most: &Value,
+    test: &Value,
+    body: Result<Vec<Statement>, Misread>,
+) -> Result<Statement, Misread>
+    ensures { (b : Option NamedBody) → IsRead list_tree body b
+        → IsRead statement_tree result (loop_of (view most.now) (view test.now) b) }
+{
+    let (body, test) = both(body, expression(alloc, test))?;
+    let Some(most) = integer_at(most) else {
+        return Err(Misread::Shape);
+    };
+    Ok(Statement::While(most, test, body))
+}
+
 /// The statement of a word and its parts.
 #[cycle(statement)]
 fn parts(alloc: Global, items: &[Value]) -> Result<Statement, Misread>
@@ -102,12 +140,19 @@ fn parts(alloc: Global, items: &[Value]) -> Result<Statement, Misread>
         [_, _] => Err(Misread::Shape),
         [_, name, value] => assign(alloc, word, name, value),
         [_, x, y, z] => {
-            if word != "if" {
-                return schedule(alloc, word, x, y, z);
+            if word == "if" {
+                let first = body(alloc, y);
+                let second = body(alloc, z);
+                return choose(alloc, x, first, second);
             }
-            let first = body(alloc, y);
-            let second = body(alloc, z);
-            choose(alloc, x, first, second)
+            if word == "while" {
+                let list = body(alloc, z);
+                return turns(alloc, x, y, list);
+            }
+            if word == "setat" {
+                return set_cell(alloc, x, y, z);
+            }
+            schedule(alloc, word, x, y, z)
         }
         [_, _, _, _, _, ..] => Err(Misread::Shape),
     }

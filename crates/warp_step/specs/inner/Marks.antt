@@ -16,7 +16,7 @@ abbrev pub first_link : Program → ℕ
 first_link P = length P.reactions + length P.outputs
 
 abbrev pub most_marks : ℕ
-most_marks = 640
+most_marks = 2304
 
 -- 1 where the number is marked, else 0
 abbrev pub mark_at : ℕ → ℕ → ℕ

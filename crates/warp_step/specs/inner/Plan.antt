@@ -78,16 +78,16 @@ is_port (to.Port n) = true
 abbrev pub place_number : Target → ℕ
 place_number to.Startup = 0
 place_number (to.Timer n) = 1 + n
-place_number (to.Action n) = 17 + n
-place_number (to.Port n) = 81 + n
+place_number (to.Action n) = 65 + n
+place_number (to.Port n) = 321 + n
 
 abbrev pub numbered_place : ℕ → Target
 numbered_place n =
-    if nat_eq n 0 then to.Startup else if nat_lt n 17 then to.Timer (n - 1) else if nat_lt n 81 then to.Action (n - 17) else to.Port (n - 81)
+    if nat_eq n 0 then to.Startup else if nat_lt n 65 then to.Timer (n - 1) else if nat_lt n 321 then to.Action (n - 65) else to.Port (n - 321)
 
 -- the most places of a program
 abbrev pub most_places : ℕ
-most_places = 337
+most_places = 1345
 
 -- the numbers of all places. It is opened only where it is asked for, since a tactic would write all of them out.
 unfoldable pub place_numbers : List ℕ

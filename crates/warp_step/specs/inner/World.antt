@@ -1,6 +1,7 @@
 -- What the reactions of a step share, for proofs about their order.
 use Rattle.std.specs.Prelude.{ℕ, ℤ, Bool, List, [], slice_set, if◌then◌else◌}
 use Rattle.warp_body.specs.Presence.{Presence, with_value}
+use Rattle.warp_body.specs.Cell.{with_cell}
 use Rattle.warp_body.specs.Effect.{Effect, effect_of}
 use Rattle.warp_body.specs.declared.place.Target.TheVariants as to
 use Rattle.warp_body.specs.declared.stmt.Wish.{Wish}
@@ -18,6 +19,10 @@ with_variable k v w = record { vars = slice_set w.vars k v; present = w.present 
 
 abbrev pub with_port : ℕ → ℤ → World → World
 with_port port v w = record { vars = w.vars; present = with_value (to.Port port) v w.present }
+
+-- and with a cell set
+abbrev pub with_cell_in : ℕ → ℕ → ℤ → ℤ → World → World
+with_cell_in first count index v w = record { vars = with_cell w.vars first count index v; present = w.present }
 
 -- a body that has a world before it, and no wishes yet; the world of a body under way; and a change of it
 abbrev pub begun : World → Effect

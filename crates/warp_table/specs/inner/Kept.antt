@@ -9,7 +9,7 @@ use Rattle.warp_tag.specs.Moment.{Moment, is_same}
 use Rattle.warp_tag.specs.Table.{fresh, greater, is_lesser}
 use Rattle.warp_tag.specs.declared.entry.Entry.{Entry}
 use Rattle.warp_record.specs.declared.record.Record.{Record}
-use Rattle.warp_record.specs.declared.record.Record.TheVariants.{Event, Withdraw, Announce}
+use Rattle.warp_record.specs.declared.record.Record.TheVariants.{Event, Withdraw, Announce, Joint}
 use Rattle.warp_record.specs.Order.{record_cmp}
 use Rattle.warp_table.specs.Log.{IsAt}
 use Rattle.warp_table.specs.Names.{Tells}
@@ -29,6 +29,7 @@ abbrev pub payload_of : Option Record → Option (ℕ × ℤ)
 payload_of (Some (Event origin tag input value)) = Some (input, value)
 payload_of (Some (Withdraw origin tag)) = None
 payload_of (Some (Announce origin tag events withdrawn)) = None
+payload_of (Some (Joint tag events withdrawn)) = None
 payload_of None = None
 
 -- the payload of the event at a place
@@ -138,6 +139,7 @@ place_in records names others (Event origin tag input value) =
     event_place records (known_of (record { origin = origin; tag = tag }) names).event others (Event origin tag input value)
 place_in records names others (Withdraw origin tag) = withdrawal_place (known_of (record { origin = origin; tag = tag }) names).withdrawal
 place_in records names others (Announce origin tag events withdrawn) = other_place others (Announce origin tag events withdrawn)
+place_in records names others (Joint tag events withdrawn) = other_place others (Joint tag events withdrawn)
 
 -- no event, or one of the name
 abbrev pub HoldsEvent : List Record → Name → ℕ → Type 0

@@ -4,7 +4,7 @@ use Rattle.std.specs.Prelude.{◌≡◌, ◌⊎◌, ℕ, ◌+◌, ◌-◌, ◌<�
 use Rattle.std.specs.List.{list_any, position_or_len}
 use Rattle.warp_tag.specs.Moment.{Moment, is_before}
 use Rattle.warp_table.specs.Announced.{beginning}
-use Rattle.warp_table.specs.inner.Heard.{Announced, AreAscending, Heard, count_before, with_tag}
+use Rattle.warp_table.specs.inner.Heard.{Announced, Heard, count_before, with_tag}
 use Rattle.warp_table.specs.declared.tally.EventOrWithdrawal.{EventOrWithdrawal}
 use Rattle.warp_table.specs.declared.tally.EventOrWithdrawal.TheVariants.{Event, Withdrawal}
 use Rattle.warp_table.specs.declared.tally.Numbers.{Numbers}
@@ -82,10 +82,9 @@ pub record IsVerdict (doubled : Option Moment) (tallies : List Tally) (verdict :
   pub greatest : (tally : Tally) → Contains tallies tally → is_met tally ≡ true → is_before verdict.reached tally.tag ≡ false
   pub broken : verdict.is_broken ≡ (list_any is_exceeded tallies || list_any (has_doubled doubled) tallies)
 
--- what always holds of the parts of an announcer: of the tags of its events and of its withdrawals, and of the rest
+-- what always holds of announcements, by the tags of the names that have an event and of those that have a withdrawal: what is counted,
+-- and the verdict
 pub record AreKept (names gone : List Moment) (doubled : Option Moment) (tallies : List Tally) (verdict : Verdict) : Type 0 where
-  pub events : AreAscending names
-  pub withdrawn : AreAscending gone
   pub in_order : AreInOrder tallies
   pub counts : All (Counts names gone) tallies
   pub judged : IsVerdict doubled tallies verdict

@@ -1,11 +1,15 @@
 -- The lines of a replica, piece by piece: for the calls that append them alone. No contract of a public call cites this.
-use Rattle.std.specs.Prelude.{◌≡◌, ℕ, ℤ, List, [], ◌∷◌, ◌++◌, codes, decimal, length, map}
+use Rattle.std.specs.Prelude.{◌≡◌, ℕ, ℤ, Bool, false, List, [], ◌∷◌, ◌++◌, codes, decimal, length, map, slice_get, if◌then◌else◌}
+use Rattle.std.specs.Option.{option_map_or}
 use Rattle.std.specs.List.{flat_map}
-use Rattle.warp_step.specs.Program.{Program}
+use Rattle.warp_step.specs.Program.{Program, told_of}
+use Rattle.warp_record.specs.declared.line.Query.TheVariants as query
+use Rattle.warp_record.specs.declared.record.Record.{Record}
 use Rattle.warp_record.specs.declared.reply.Reply.{Reply}
 use Rattle.warp_record.specs.declared.reply.Reply.TheVariants.{Horizon, Outputs, Released, Lost, Var}
 use Rattle.warp_table.specs.Records.{Records}
 use Rattle.warp_replica.specs.Answers.{Answers, AreAnswers}
+use Rattle.warp_replica.specs.Gives.{reply_to}
 use Rattle.warp_record.specs.Reply.{reply_line}
 
 -- the text grew by these lines of the program's answers over the set
@@ -30,6 +34,14 @@ count_lines a = flat_map reply_line (count_replies a)
 abbrev pub value_lines : ℕ → List ℤ → List ℕ
 value_lines count values = flat_map reply_line (map (λ value. Var count value) values)
 
--- a line for each variable
-abbrev pub variable_lines : Answers → List ℕ
-variable_lines a = value_lines a.count a.state.vars
+-- a line for each variable that is told
+abbrev pub variable_lines : Program → Answers → List ℕ
+variable_lines P a = value_lines a.count (told_of P.variables a.state.vars)
+
+-- whether the variable with this number is told
+abbrev pub told_at : Program → ℕ → Bool
+told_at P number = option_map_or (λ v. v.is_told) (slice_get P.variables number) false
+
+-- the line of the variable with this number, where it is told
+abbrev pub variable_line : Program → List Record → ℕ → Answers → List ℕ
+variable_line P records number a = if told_at P number then reply_line (reply_to P records a (query.Var number)) else []

@@ -14,8 +14,6 @@ Part = Union[Node, Word]
 # What ends with a semicolon, which may be left out in a text; and what ends with none.
 ENDED = {"state", "ports", "action", "timer", "instance", "connection"}
 UNENDED = {"constant", "target", "import_", "enum", "struct", "function", "reaction"}
-# What stands on lines of its own.
-ALONE = {"reaction", "mode", "function", "body", "test", "reactor"}
 # What goes on with a line, wherever it stands in the text.
 GOES_ON = {"SEMICOLON", "COMMA", "RPAR", "RSQB", "LBRACE", "COLON"}
 
@@ -102,11 +100,15 @@ class Layout:
             token = self.tokens[self.number(word)]
             if word.kind == "COLON" and node.rule == "expression":
                 token.is_tight_before, token.may_break = False, True
-            elif word.kind == "LPAR" and node.rule in ("atom", "if_else", "loop", "moment", "sources"):
+            elif word.kind == "LBRACE" and node.rule == "list":
+                token.is_tight_behind = True
+            elif word.kind == "RBRACE" and node.rule == "list":
+                token.is_tight_before = True
+            elif word.kind == "LPAR" and node.rule in ("atom", "if_else", "loop", "while_loop", "moment", "sources"):
                 token.is_tight_before = False
             elif word.kind == "PLUS" and node.rule == "sources":
                 token.is_tight_before = True
-            elif word.kind in ("MINUS", "NOT") and node.rule == "unary":
+            elif word.kind in ("MINUS", "NOT", "TILDE") and node.rule == "unary":
                 token.is_tight_behind = self.tokens[self.number(word) + 1].text not in ("-", "--")
             elif word.kind == "STEP" and place == 0:
                 token.is_tight_before, token.is_tight_behind = False, True
@@ -160,9 +162,9 @@ class Layout:
             self._rest_of_place(it, indent)
         elif it.is_body or it.rule == "test":
             self._block_of_word(it, indent, is_broken, is_first)
-        elif any(isinstance(each, Word) and each.kind == "LBRACE" for each in it.parts):
+        elif it.rule != "list" and any(isinstance(each, Word) and each.kind == "LBRACE" for each in it.parts):
             self._braced(it.parts, indent, is_broken, is_first)
-        elif it.rule in ("if_else", "loop"):
+        elif it.rule in ("if_else", "loop", "while_loop"):
             self._controls(it, indent, is_broken, is_first)
         else:
             for number, each in enumerate(it.parts):
@@ -171,15 +173,20 @@ class Layout:
     def _word(self, word: Word, indent: int) -> None:
         if word.kind == "$END":
             return
-        number = self.number(word)
-        where = Where.SAME if word.kind in GOES_ON or self.tokens[number].is_tight_before else Where.KEEP
-        self.printer.put(number, indent + 2 * STEP, where, blanks=False)
+        self._go_on(self.number(word), indent, word.kind in GOES_ON)
 
     def _rest_of_place(self, word: Word, indent: int) -> None:
+        """Writes the words of a place of a test behind its first, as those of a place in a body are written."""
         if word.kind != "$END":
             number = self.number(word)
             for each in range(number + 1, self._end_of_place(number, word) + 1):
-                self.printer.put(each, indent + 2 * STEP, Where.SAME, blanks=False)
+                self._go_on(each, indent)
+
+    def _go_on(self, number: int, indent: int, is_tight: bool = False) -> None:
+        """Writes a word that goes on with its line, or begins one where it does in the text and need not stand right
+        behind the word before."""
+        where = Where.SAME if is_tight or self.tokens[number].is_tight_before else Where.KEEP
+        self.printer.put(number, indent + 2 * STEP, where, blanks=False)
 
     def _block_of_word(self, it: Node, indent: int, is_broken: bool, is_first: bool) -> None:
         word, *parts = it.parts
@@ -214,31 +221,27 @@ class Layout:
                 self._rest(it, indent, False)
             printer.put(end, indent, Where.SAME, blanks=False)
             return
-        is_all_broken, before = printer.is_flat(begin, end), None
+        is_all_broken, is_first, is_behind_long = printer.is_flat(begin, end), True, False
         for it in items:
             if isinstance(it, Word) and it.kind == "COMMA":
                 self._word(it, indent)
                 continue
-            is_alone = before is None or is_all_broken or self._stands_alone(before, it, indent + STEP)
+            # Once it is written, its words no longer tell where they stood in the text.
+            is_long = not self._fits(it, indent + STEP)
+            is_alone = is_first or is_all_broken or is_behind_long or self._begins(it)
             if is_alone:
-                self.tokens[self.first(it)].lines *= before is not None or bool(self.tokens[self.first(it)].comments)
+                self.tokens[self.first(it)].lines *= not is_first or bool(self.tokens[self.first(it)].comments)
             self._item(it, indent + STEP, Where.START if is_alone else Where.SAME)
-            before = it
+            is_first, is_behind_long = False, is_long
         self.tokens[end].lines = min(self.tokens[end].lines, 1)
-        printer.put(end, indent, Where.START, of_comments=indent + STEP, blanks=before is not None)
+        printer.put(end, indent, Where.START, of_comments=indent + STEP, blanks=not is_first)
 
-    def _stands_alone(self, before: Part, it: Part, indent: int) -> bool:
-        """Whether a member or statement begins a line."""
-        first = self.tokens[self.first(it)]
-        room = self.printer.column + 1
-        return first.breaks or not self._fits(it, room) or self._is_alone(it) or self._is_alone(before) or (
-            not self._fits(before, indent))
-
-    def _is_alone(self, it: Part) -> bool:
-        return isinstance(it, Node) and it.rule in ALONE
+    def _begins(self, it: Part) -> bool:
+        """Whether a member or statement begins a line: it does so in the text, or has no room on this one."""
+        return self.tokens[self.first(it)].breaks or not self._fits(it, self.printer.column + 1)
 
     def _controls(self, it: Node, indent: int, is_broken: bool, is_first: bool) -> None:
-        """Writes an `if` or a `for`. A statement of it without braces goes on, or stands on a line of its own."""
+        """Writes an `if`, a `for` or a `while`. A statement of it without braces goes on, or stands on a line of its own."""
         head = next(number for number, each in enumerate(it.parts) if isinstance(each, Word) and each.kind == "RPAR")
         for number, each in enumerate(it.parts):
             if isinstance(each, Word) and each.kind == "ELSE":

@@ -107,11 +107,16 @@ class Printer:
         if not self.tokens[number].may_break:
             return False
         last = number
-        while last + 1 < len(self.tokens) and not self.tokens[last + 1].may_break and self.is_flat(last, last + 1):
+        # A semicolon that was left out in the text hangs on the word before it.
+        while not self.tokens[last].text.endswith(";") and self._goes_on(last + 1):
             last += 1
-            if self.tokens[last].text in ("{", "{=", "}", "=}", ";"):
+            if self.tokens[last].text in ("{", "{=", "}", "=}"):
                 break
         return self.column + 1 + self.width(number, last) > WIDTH and self.column > 0
+
+    def _goes_on(self, number: int) -> bool:
+        """Whether a word, if there is one, goes on with its line in the text and no line may be broken before it."""
+        return number < len(self.tokens) and not self.tokens[number].may_break and self.is_flat(number - 1, number)
 
     def text(self) -> str:
         """The lines; comments behind lines that follow each other begin at one column."""

@@ -32,7 +32,9 @@ KEYWORDS = {
     "let": "A name for a value at this place, up to the end of the block. It is constant.",
     "if": "`if (E) S else S`: the first where E is not 0.",
     "else": "`if (E) S else S`: the first where E is not 0.",
-    "for": "`for (let i = 0; i < 4; i++) S`: S for each `i`. The bounds are constant.",
+    "for": "`for (let i = 0; i < 4; i++) S`: S for each `i`. The bounds are constant, or `; most 100` stands behind them.",
+    "while": "`while (E; most 100) S`: S again and again while E is not 0, so many times at most.",
+    "most": "How many turns a loop has at most: `while (E; most 100) S`.",
     "return": "Ends the body, or gives the value of a function.",
     "break": "Ends the loop.",
     "continue": "Ends this turn of the loop.",
@@ -49,11 +51,14 @@ BUILT_IN = {
     "abs": "`abs(a)`: without its sign.", "clamp": "`clamp(a, low, high)`: the nearest value from `low` to `high`.",
     "floor": "`floor(a)`: the whole number that is not above.", "round": "`round(a)`: the nearest whole number.",
     "fixed": "`fixed`: a number with a point, kept as a whole number of 65,536ths; `fixed(n)` makes one of an `int`.",
+    "mix": "`mix(seed, n)`: draw n of this seed, the first for n = 1; the same numbers give the same draw.",
+    "muldiv": "`muldiv(a, b, c)`: a * b / c, with a product that is not cut to 64 bits.",
+    "lf": "`lf.time`, `lf.microstep`: the tag that is executed.",
     "bank_index": "The place of an instance in its bank, from 0.",
     "int": "A whole number of 64 bits.", "bool": "The same as `int`: 0 or 1.", "time": "The same as `int`: a time.",
     "stop": "The last time that is executed.", "timeout": "The last time that is executed.",
     "unit": "What 1 of time is: `unit: 1 ms`.", "origins": "How many origins there are.",
-    "version": "The version of the program file: 2 where it does not stand.",
+    "version": "The version of the program file: where it does not stand 2, or 4 where the program needs it.",
     "microsteps_at_stop": "`true`: later microsteps of the stop are executed too.",
 }
 # What the words of tests mean, which are words in tests alone.
@@ -80,8 +85,8 @@ TOP_WORDS = ("const", "import", "enum", "struct", "function", "main reactor", "r
 MEMBER_WORDS = (
     "state", "input", "output", "logical action", "timer", "reaction", "method", "mode", "initial mode", "reset state",
 )
-BODY_WORDS = ("let", "if", "else", "for", "return", "break", "continue", "true", "false")
+BODY_WORDS = ("let", "if", "else", "for", "while", "return", "break", "continue", "true", "false")
 STATEMENT_CALLS = ("put", "schedule", "request_stop", "set_mode")
-VALUE_CALLS = ("present", "min", "max", "abs", "clamp", "floor", "round", "fixed")
+VALUE_CALLS = ("present", "min", "max", "abs", "clamp", "floor", "round", "fixed", "mix", "muldiv")
 TYPE_WORDS = ("int", "bool", "time", "fixed")
 PROPERTY_WORDS = ("stop", "timeout", "unit", "origins", "version", "microsteps_at_stop")

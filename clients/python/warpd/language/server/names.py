@@ -401,6 +401,8 @@ class Scan:
             return self._routine(place)
         if kind == "REACTION":
             return self._reaction(place)
+        if kind == "CALLED":
+            return min(place + 4, len(self.words) - 1) if self._kind(place + 2) == "STRING" else place + 1
         if kind == "NAME" and self._kind(place + 1) == "EQUALS" and self._kind(place + 2) == "NEW":
             return self._instance(place)
         if kind in BEGINS or kind in ("RESET", "SEMICOLON"):
@@ -435,6 +437,8 @@ class Scan:
             for it in made:
                 it.type = self.words[place + 1]
             place += 2
+            while self._kind(place) == "LSQB":
+                place = Expressions(self, place, None).index()
         for it in made[-1:]:
             self._ended(it, place)
         return place
@@ -531,6 +535,8 @@ class Expressions:
     def __init__(self, scan: Scan, place: int, of: Optional[Symbol]):
         self.scan, self.words, self.place, self.of = scan, scan.words, place, of
         self.links = Links(scan)
+        # How many lists are open: `{1, 2}`.
+        self.lists = 0
 
     def read(self, ends: Optional[str]) -> int:
         """Goes up to the end of an expression, a list of places or a connection; gives the place behind it. `ends` is a
@@ -538,6 +544,10 @@ class Expressions:
         depth, words, start = 0, self.words, self.place
         while (word := words[self.place]).kind != "$END":
             kind, before = word.kind, words[self.place - 1].kind
+            if self._is_of_list(kind, before):
+                depth += 1 if kind == "LBRACE" else -1
+                self.place += 1
+                continue
             if kind in BEGINS or kind in ("LBRACE", "RBRACE", "FOREIGN") or kind in ("BODY", ends) and depth == 0:
                 break
             if kind == "SEMICOLON" and depth == 0:
@@ -551,6 +561,15 @@ class Expressions:
             self._take(word, before)
             self.place += 1
         return self.place
+
+    def _is_of_list(self, kind: str, before: str) -> bool:
+        """Whether a brace begins or ends a list of values."""
+        if kind == "LBRACE" and (before == "EQUALS" or self.lists and before in ("LBRACE", "COMMA")):
+            self.lists += 1
+            return True
+        is_end = kind == "RBRACE" and self.lists > 0
+        self.lists -= is_end
+        return is_end
 
     def _begins_anew(self, before: str) -> bool:
         """Whether the name here begins a member, where the one before has no semicolon."""
@@ -580,8 +599,14 @@ class Expressions:
     def arguments(self, of: Word) -> int:
         """Reads `(name = expression, ..)` of an instance of this reactor; gives the place behind it."""
         depth = 0
-        while (word := self.words[self.place]).kind not in BEGINS | {"$END", "LBRACE", "RBRACE", "BODY", "SEMICOLON"}:
+        while (word := self.words[self.place]).kind not in BEGINS | {"$END", "BODY", "SEMICOLON"}:
             before, behind = (self.words[self.place + it].kind for it in (-1, 1))
+            if self._is_of_list(word.kind, before):
+                depth += 1 if word.kind == "LBRACE" else -1
+                self.place += 1
+                continue
+            if word.kind in ("LBRACE", "RBRACE"):
+                break
             depth += (word.kind in ("LPAR", "LSQB")) - (word.kind in ("RPAR", "RSQB"))
             if word.kind == "NAME" and depth == 1 and behind == "EQUALS" and before in ("LPAR", "COMMA"):
                 self.scan._use(word, "argument", of=of)

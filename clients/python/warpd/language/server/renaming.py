@@ -60,7 +60,7 @@ class Renaming:
             raise Refused(f"`{INDEX}` means the place in a bank by its name")
         if not is_name(new):
             raise Refused(f"`{new}` is no name: a name has at most 32 letters, digits and `_`, a letter first")
-        if new in grammar().kinds or new in BUILT_IN or any(new in it for it in KNOWN.values()):
+        if grammar().kinds.get(new, "MOST") != "MOST" or new in BUILT_IN or any(new in it for it in KNOWN.values()):
             raise Refused(f"`{new}` is a word of the language")
 
     def _check(self, edits: dict[Path, list], symbol: Symbol, new: str) -> None:
@@ -172,7 +172,7 @@ def shape(program: dict) -> Any:
     named = ("reactors", "links", "inputs", "outputs")
     made: dict[str, Any] = {key: value for key, value in program.items() if key not in named}
     made["reactors"] = [
-        _numbered({key: value for key, value in it.items() if key != "name"}, names)
+        _numbered({key: [each[:1] for each in value] if key == "called" else value for key, value in it.items() if key != "name"}, names)
         for it, names in zip(program["reactors"], locals_)
     ]
     made["links"] = [(port(source), port(target), *delay) for source, target, *delay in program.get("links", ())]
@@ -183,7 +183,7 @@ def shape(program: dict) -> Any:
 
 def _local(reactor: dict) -> dict[str, int]:
     """A number for each name that a reactor declares."""
-    names = [it if isinstance(it, str) else it[0] for key in ("vars", "inputs", "outputs", "actions", "timers")
+    names = [it if isinstance(it, str) else it[0] for key in ("vars", "arrays", "inputs", "outputs", "actions", "timers")
              for it in reactor.get(key, ())]
     return {name: number for number, name in enumerate(names)}
 

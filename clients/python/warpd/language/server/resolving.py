@@ -16,11 +16,12 @@ WIDTH, TESTS = "_width", ".test.lf"
 KNOWN = {
     "value": {
         "startup", "shutdown", "reset", "bank_index", "min", "max", "abs", "clamp", "present", "floor", "round",
-        "fixed", "put", "schedule", "request_stop", "set_mode", "among",
+        "fixed", "put", "schedule", "request_stop", "set_mode", "among", "mix", "muldiv", "lf",
     },
     "type": {"int", "bool", "time", "fixed", "int64_t", "void"},
     "property": {"stop", "timeout", "unit", "origins", "version", "microsteps_at_stop"},
     "argument": {"bank_index"},
+    "member": {"time", "microstep"},
     "test": {"min", "max", "abs", "clamp", "present", "floor", "round", "fixed", "lost"},
 }
 Load = Callable[[Path], Optional[Names]]

@@ -93,6 +93,9 @@ class Reader:
     def test(self, word: Word) -> list[Test]:
         """The test of a block; none where it has a fault."""
         before = self.report.errors
+        self._cells(word.parts)
+        if self.report.errors != before:
+            return []
         renamed(word.parts, self.subject.name_of)
         block = Parser("", self.report).test(word)
         if block is None:
@@ -101,6 +104,12 @@ class Reader:
         if self.report.errors == before and not any(isinstance(it, (Expected, Puts)) for it in steps):
             self.report.error(block.at, "this test expects nothing", "`expect E;` says what must be so")
         return [Test(block.name, block.in_every_order, steps, block.at)] if self.report.errors == before else []
+
+    def _cells(self, words: Sequence[Word]) -> None:
+        """Tells what stands for a cell and names none."""
+        for it, behind in zip(words, (*words[1:], None)):
+            if it.kind == "NAME" and (told := self.subject.no_cell(it.value.text, behind is not None and behind.text == "[")):
+                self.report.error(it.value.at, *told)
 
     def steps(self, it: tree.Step) -> Iterator[Step]:
         """What a line of a block stands for: each of its events by itself."""

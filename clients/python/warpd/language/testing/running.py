@@ -159,10 +159,12 @@ class World:
         if ran.returncode:
             raise Fails(f"{words[0]} trace: {ran.stderr.decode(errors='replace').strip()}")
         found, values = [Row(Tag(-1), tuple(self.subject.starts))], list(self.subject.starts)
+        places = {self.subject.told[name]: place for place, name in enumerate(self.subject.variables)}
         for line in ran.stdout.decode().splitlines():
             row = json.loads(line)
             for name, value in row["changed"].items():
-                values[self.subject.variables[name]] = value
+                if name in places:
+                    values[places[name]] = value
             found.append(Row(Tag(*row["tag"]), tuple(values)))
         return found
 
@@ -189,7 +191,7 @@ class Session:
     def answers(self) -> Answers:
         count, lost = (it.count for it in self._said(["outputs", "lost"]))
         outputs = self._said(f"output {it}" for it in range(count))
-        variables = self._said(f"var {it}" for it in range(len(self.world.subject.variables)))
+        variables = self._said(f"var {it}" for it in self.world.subject.variables.values())
         try:
             put = tuple((it.tag, it.port, it.value) for it in outputs)
             return Answers(tuple(it.value for it in variables), put, lost)

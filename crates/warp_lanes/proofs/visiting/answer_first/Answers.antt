@@ -1,4 +1,4 @@
-use Rattle.std.proofs.Common.{◌≡◌, ◌⊎◌, inl, inr, ◌<◌, ◌++◌, ◌∷◌, [], ◌∙◌, ap, append-nil, refl, sym, subst, true≢false, arith, length, length-append}
+use Rattle.std.proofs.Common.{inl, inr, ◌<◌, ◌++◌, ◌∷◌, [], ◌∙◌, ap, append-nil, refl, sym, subst, true≢false, arith, length, length-append}
 use Rattle.std.proofs.lemmas.List.{append_assoc}
 use Rattle.rtrb.specs.Ring.{received}
 use Rattle.warp_step.proofs.ValidLemmas.{validity}

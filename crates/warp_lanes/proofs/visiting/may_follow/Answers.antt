@@ -1,4 +1,4 @@
-use Rattle.std.proofs.Common.{◌≡◌, ◌≤◌, ◌∙◌, ap, arith, inr, length, sym}
+use Rattle.std.proofs.Common.{◌≤◌, ◌∙◌, ap, arith, inr, length, sym}
 use Rattle.std.proofs.lemmas.Bool.Decides.{nat_tests}
 use Rattle.warp_lanes.proofs.PublishedInTurn.{all_begun}
 use Rattle.warp_lanes.proofs.visiting.may_follow.Goals as goal

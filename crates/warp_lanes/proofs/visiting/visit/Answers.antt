@@ -1,6 +1,6 @@
-use Rattle.std.proofs.Common.{◌≡◌, ◌≤◌, ◌++◌, [], List, ◌∙◌, ap, arith, length, subst, sym}
+use Rattle.std.proofs.Common.{◌≡◌, ◌+◌, ◌≤◌, ◌++◌, [], List, ◌∙◌, ap, arith, length, subst, sym}
 use Rattle.std.proofs.lemmas.Bool.Decides.{nat_tests}
-use Rattle.std.proofs.lemmas.List.{nil_from_length}
+use Rattle.std.proofs.lemmas.List.{length-append, nil_from_length}
 use Rattle.rtrb.specs.Ring.{known_free, sent}
 use Rattle.warp_step.specs.Program.{Program}
 use Rattle.warp_record.specs.declared.record.Record.{Record}
@@ -73,3 +73,20 @@ returns-clause-visits g c =
             c.show.ensures.published c.show.ensures.unsettled;
       },
     )
+
+pub invariant_of-lane-2 : goal.invariant_of-lane-2
+invariant_of-lane-2 g c =
+    let facts = facts_of g.T.Timeline.settled g.T.Timeline.refused g.T.Timeline.floor g.T.Timeline.SLACK in
+    let m = c.answer_first.ensures.made in
+    let made = c.answer_first.new.unsent.items in
+    let full = c.is_full.ensures.looked in
+    let count = c.count_for-count.ensures in
+    let push = c.push_entire_slice-sent.ensures in
+    let many : length made ≡ length m.0 = lines_count facts (AnswersLine facts) (among facts) _ _ m.0 made m.2 in
+    let room : length c.as_slice.result.now ≤ known_free c.count_for-count.new.answers =
+    omega (arith, c.answer_first.ensures.most, ap length c.as_slice.ensures.value, count.free) in
+    let pushed = on_ok c.push_entire_slice-sent.result (push.succeeds room) push.ok in
+    let longer : length (sent c.push_entire_slice-sent.new.self) ≡ length (sent c.count_for-count.new.answers) + length c.as_slice.result.now =
+    ap length pushed.0 ∙ length-append _ _ in
+    let kept : length (sent c.count_for-count.new.answers) ≡ length (sent c.lane.inside.answers) = ap length (count.looked.1 ∙ full.1) in
+    omega (arith, c.lane.invariant, longer, kept, pushed.1, count.looked.2, full.2)

@@ -2,7 +2,7 @@ use Rattle.std.proofs.Common.{◌≡◌, ℕ, ◌≤◌, List, ◌++◌, length,
 use Rattle.std.proofs.lemmas.List.{append-nil, drop_all}
 use Rattle.warp_step.specs.Program.{rule_of}
 use Rattle.warp_prog.specs.File.{ReactorPart}
-use Rattle.warp_prog.specs.Numbered.{in_each, its_variables, its_ports, its_actions, its_timers, its_reactions}
+use Rattle.warp_prog.specs.Numbered.{in_each, its_variables, its_cells, its_ports, its_actions, its_timers, its_reactions}
 use Rattle.warp_prog.specs.View.{reactor_tree}
 use Rattle.warp_prog.specs.declared.file.Reactor.{Reactor}
 use Rattle.warp_prog.specs.declared.scope.Before.{Before}
@@ -28,6 +28,7 @@ loop-reactor-preserved c =
     rw c.past-before.ensures (record {
       room = (room_more l.before rs i r lt here l.invariant.room).1;
       variables = each_more its_variables old.variables.items new.variables.items l.before rs i r lt here added.variables ∙ l.invariant.variables;
+      cells = each_more its_cells old.cells.items new.cells.items l.before rs i r lt here added.cells ∙ l.invariant.cells;
       ports = each_more its_ports old.ports.items new.ports.items l.before rs i r lt here added.ports ∙ l.invariant.ports;
       actions = each_more its_actions old.actions.items new.actions.items l.before rs i r lt here added.actions ∙ l.invariant.actions;
       timers = each_more its_timers old.timers.items new.timers.items l.before rs i r lt here added.timers ∙ l.invariant.timers;
@@ -48,6 +49,11 @@ pub returns-clause-variables : goal.returns-clause-variables
 returns-clause-variables c =
     let l = c.loop-reactor in
     sym (each_all its_variables l.contents.variables.items l.before c.args.reactors.now l.reactor-index c.loop-reactor-test.false) ∙ l.invariant.variables
+
+pub returns-clause-cells : goal.returns-clause-cells
+returns-clause-cells c =
+    let l = c.loop-reactor in
+    sym (each_all its_cells l.contents.cells.items l.before c.args.reactors.now l.reactor-index c.loop-reactor-test.false) ∙ l.invariant.cells
 
 pub returns-clause-ports : goal.returns-clause-ports
 returns-clause-ports c =

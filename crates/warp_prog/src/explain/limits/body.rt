@@ -3,7 +3,7 @@
 use crate::explain::reason::Reason;
 use crate::explain::trail::{Segment, Trail};
 use crate::file::{Expression, Statement};
-use crate::limits::body::{DEEPEST, MOST_WISHES, is_deeper_term};
+use crate::limits::body::{DEEPEST, MOST_TURNS, MOST_WISHES, is_deeper_term};
 use crate::limits::{longest_period, range_exceeds};
 use warp_tag::Form;
 
@@ -48,6 +48,12 @@ fn statement_fails(statement: &Statement, levels: usize, longest: i64, at: &mut 
             term_fails(test, 1, at)
                 || statements_fail(first, below, longest, Segment::Item(2), at)
                 || statements_fail(second, below, longest, Segment::Item(3), at)
+        }
+        Statement::SetAt(_, index, term) => term_fails(index, 2, at) || term_fails(term, 3, at),
+        Statement::While(most, test, turn) => {
+            range_exceeds(*most, 1, MOST_TURNS, Segment::Item(1), at)
+                || term_fails(test, 2, at)
+                || statements_fail(turn, below, longest, Segment::Item(3), at)
         }
     }
 }

@@ -2,7 +2,7 @@
 
 use crate::explain::reason::Reason;
 use crate::explain::shape::part::{Leaf, leaf_fails};
-use crate::explain::terms::{OPERATORS, STATEMENTS, operands};
+use crate::explain::terms::{operands, operators, statements};
 use crate::explain::trail::{Segment, Trail};
 use crate::shape::json::first_word;
 use serde_json::Value;
@@ -54,30 +54,62 @@ const IF: Form = Form {
     words: "[\"if\", expression, [..], [..]]",
 };
 
-/// The form of the statements that begin with this word.
-fn form_of(word: &str) -> Option<Form> {
+const SETAT: Form = Form {
+    slots: &[
+        Slot::Word,
+        Slot::Leaf(Leaf::Name),
+        Slot::Expression,
+        Slot::Expression,
+    ],
+    words: "[\"setat\", array, expression, expression]",
+};
+
+const WHILE: Form = Form {
+    slots: &[
+        Slot::Word,
+        Slot::Leaf(Leaf::Number),
+        Slot::Expression,
+        Slot::Body,
+    ],
+    words: "[\"while\", most, expression, [..]]",
+};
+
+/// The form of the statements of a file of version 4, or of another one, that begin with this word.
+fn form_of(word: &str, is_last: bool) -> Option<Form> {
     match word {
         "set" => Some(SET),
         "put" => Some(PUT),
         "schedule" => Some(SCHEDULE),
         "if" => Some(IF),
+        "setat" if is_last => Some(SETAT),
+        "while" if is_last => Some(WHILE),
         _ => None,
     }
 }
 
 /// Whether a value is no list of statements; this segment leads to it.
 #[cycle(statement_fails)]
-pub(crate) fn body_fails<'v>(value: &'v Value, segment: Segment, at: &mut Trail<'v>) -> bool {
+pub(crate) fn body_fails<'v>(
+    value: &'v Value,
+    is_last: bool,
+    segment: Segment,
+    at: &mut Trail<'v>,
+) -> bool {
     match value {
-        Value::Array(items) => statements_fail(items.as_slice(), segment, at),
+        Value::Array(items) => statements_fail(items.as_slice(), is_last, segment, at),
         _ => at.fault_at(segment, Reason::Form(value, NO_BODY)),
     }
 }
 
 #[cycle(statement_fails)]
-fn statements_fail<'v>(items: &'v [Value], segment: Segment, at: &mut Trail<'v>) -> bool {
+fn statements_fail<'v>(
+    items: &'v [Value],
+    is_last: bool,
+    segment: Segment,
+    at: &mut Trail<'v>,
+) -> bool {
     for (i, item) in items.iter().enumerate() {
-        if statement_fails(item, at) {
+        if statement_fails(item, is_last, at) {
             return at.back_to_item(segment, i);
         }
     }
@@ -85,10 +117,10 @@ fn statements_fail<'v>(items: &'v [Value], segment: Segment, at: &mut Trail<'v>)
 }
 
 #[cycle(statement_fails)]
-fn statement_fails<'v>(value: &'v Value, at: &mut Trail<'v>) -> bool {
+fn statement_fails<'v>(value: &'v Value, is_last: bool, at: &mut Trail<'v>) -> bool {
     match value {
-        Value::Array(items) => parts_fail(items.as_slice(), at),
-        Value::String(word) if form_of(word.as_str()).is_some() => {
+        Value::Array(items) => parts_fail(items.as_slice(), is_last, at),
+        Value::String(word) if form_of(word.as_str(), is_last).is_some() => {
             at.fault(Reason::Form(value, BARE_WORD))
         }
         _ => at.fault(Reason::Form(value, "no statement")),
@@ -97,18 +129,18 @@ fn statement_fails<'v>(value: &'v Value, at: &mut Trail<'v>) -> bool {
 
 /// Whether a list of these items is no statement.
 #[cycle(statement_fails)]
-fn parts_fail<'v>(items: &'v [Value], at: &mut Trail<'v>) -> bool {
+fn parts_fail<'v>(items: &'v [Value], is_last: bool, at: &mut Trail<'v>) -> bool {
     let Some(word) = first_word(items) else {
         return at.fault(Reason::Plain("this is no statement"));
     };
-    let Some(form) = form_of(word) else {
-        return at.fault(Reason::Unread(word, STATEMENTS));
+    let Some(form) = form_of(word, is_last) else {
+        return at.fault(Reason::Unread(word, statements(is_last)));
     };
     if items.len() != form.slots.len() {
         return at.fault(Reason::Parts(form.words));
     }
     for (i, (item, slot)) in items.iter().zip(form.slots).enumerate() {
-        if slot_fails(item, *slot, Segment::Item(i), at) {
+        if slot_fails(item, is_last, *slot, Segment::Item(i), at) {
             return true;
         }
     }
@@ -117,63 +149,82 @@ fn parts_fail<'v>(items: &'v [Value], at: &mut Trail<'v>) -> bool {
 
 /// Whether the value of a slot, to which this segment leads, is not what it has to be.
 #[cycle(statement_fails)]
-fn slot_fails<'v>(value: &'v Value, slot: Slot, segment: Segment, at: &mut Trail<'v>) -> bool {
+fn slot_fails<'v>(
+    value: &'v Value,
+    is_last: bool,
+    slot: Slot,
+    segment: Segment,
+    at: &mut Trail<'v>,
+) -> bool {
     match slot {
         Slot::Word => false,
         Slot::Leaf(leaf) => leaf_fails(value, leaf, segment, at),
-        Slot::Expression => expression_fails(value, segment, at),
-        Slot::Body => body_fails(value, segment, at),
+        Slot::Expression => expression_fails(value, is_last, segment, at),
+        Slot::Body => body_fails(value, is_last, segment, at),
     }
 }
 
 /// Whether a value, to which this segment leads, is no expression.
 #[cycle(expression_fails)]
-fn expression_fails<'v>(value: &'v Value, segment: Segment, at: &mut Trail<'v>) -> bool {
+fn expression_fails<'v>(
+    value: &'v Value,
+    is_last: bool,
+    segment: Segment,
+    at: &mut Trail<'v>,
+) -> bool {
     match value {
         Value::Number(_) => leaf_fails(value, Leaf::Number, segment, at),
         Value::String(_) => leaf_fails(value, Leaf::Name, segment, at),
-        Value::Array(items) => operation_fails(items.as_slice(), at) && at.back(segment),
+        Value::Array(items) => operation_fails(items.as_slice(), is_last, at) && at.back(segment),
         _ => at.fault_at(segment, Reason::Form(value, "no expression")),
     }
 }
 
 /// Whether a list of these items is no expression.
 #[cycle(expression_fails)]
-fn operation_fails<'v>(items: &'v [Value], at: &mut Trail<'v>) -> bool {
+fn operation_fails<'v>(items: &'v [Value], is_last: bool, at: &mut Trail<'v>) -> bool {
     let Some(word) = first_word(items) else {
         return at.fault(Reason::Plain("this is no expression"));
     };
-    if operator_fails(word, items.len(), at) {
+    if operator_fails(word, items.len(), is_last, at) {
         return true;
     }
     for (i, item) in items.iter().enumerate() {
-        if i > 0 && operand_fails(word, item, Segment::Item(i), at) {
+        if i > 0 && operand_fails(word, item, is_last, i, at) {
             return true;
         }
     }
     false
 }
 
-/// Whether a part of an operator of this word is no name behind `present`, else no expression.
+/// Whether the part at this place of an operator of this word is no name behind `present` and `at`, else no expression.
 #[cycle(expression_fails)]
-fn operand_fails<'v>(word: &str, value: &'v Value, segment: Segment, at: &mut Trail<'v>) -> bool {
-    if word == "present" {
-        return leaf_fails(value, Leaf::Name, segment, at);
+fn operand_fails<'v>(
+    word: &str,
+    value: &'v Value,
+    is_last: bool,
+    place: usize,
+    at: &mut Trail<'v>,
+) -> bool {
+    if word == "present" || (word == "at" && place == 1) {
+        return leaf_fails(value, Leaf::Name, Segment::Item(place), at);
     }
-    expression_fails(value, segment, at)
+    expression_fails(value, is_last, Segment::Item(place), at)
 }
 
 /// Whether a word is no operator, or its list has not as many items as it asks.
-fn operator_fails<'v>(word: &'v str, items: usize, at: &mut Trail<'v>) -> bool {
-    let Some(parts) = operands(word) else {
-        return at.fault(Reason::Unread(word, OPERATORS));
+fn operator_fails<'v>(word: &'v str, items: usize, is_last: bool, at: &mut Trail<'v>) -> bool {
+    let Some(parts) = operands(word, is_last) else {
+        return at.fault(Reason::Unread(word, operators(is_last)));
     };
     if items == parts.saturating_add(1) {
         return false;
     }
     at.fault(match parts {
+        0 => Reason::Plain("this operator has no part"),
         1 => Reason::Plain("this operator has one part"),
         2 => Reason::Plain("this operator has two parts"),
+        _ if word == "muldiv" => Reason::Parts("[\"muldiv\", expression, expression, expression]"),
         _ => Reason::Parts("[\"if\", expression, expression, expression]"),
     })
 }

@@ -2,6 +2,7 @@
 
 use crate::explain::reason::Reason;
 use crate::explain::trail::{Segment, Trail};
+use crate::shape::array::printed_at;
 use crate::shape::word::{name_at, port_at};
 use serde_json::Value;
 
@@ -12,6 +13,12 @@ pub(crate) enum Leaf {
     Name,
     /// A reference to a port.
     Port,
+    /// With what the cells of an array start.
+    Start,
+    /// A name, or the empty text.
+    NameOrNone,
+    /// A text for people.
+    Text,
 }
 
 /// A list of leaves.
@@ -30,6 +37,8 @@ pub(crate) struct Row {
 pub(crate) enum Part {
     /// This, and it has to be there.
     One(Leaf),
+    /// This, if it is there.
+    Maybe(Leaf),
     /// A list of these.
     Each(Leaf),
     /// A list of such lists.
@@ -86,6 +95,10 @@ pub(crate) const IN_REACTOR: &[Field] = &[
         part: Part::Rows(VARIABLE),
     },
     Field {
+        key: "arrays",
+        part: Part::Rows(ARRAY),
+    },
+    Field {
         key: "inputs",
         part: Part::Each(Leaf::Name),
     },
@@ -100,6 +113,30 @@ pub(crate) const IN_REACTOR: &[Field] = &[
     Field {
         key: "timers",
         part: Part::Rows(TIMER),
+    },
+    Field {
+        key: "called",
+        part: Part::Rows(CALLED),
+    },
+    Field {
+        key: "hidden",
+        part: Part::Each(Leaf::Name),
+    },
+];
+
+/// What a beginning has.
+pub(crate) const IN_BEGIN: &[Field] = &[
+    Field {
+        key: "pending",
+        part: Part::Rows(PENDING),
+    },
+    Field {
+        key: "lost",
+        part: Part::Maybe(Leaf::Number),
+    },
+    Field {
+        key: "since",
+        part: Part::Maybe(Leaf::Number),
     },
 ];
 
@@ -133,6 +170,24 @@ const VARIABLE: Row = Row {
     form: "[name, start]",
 };
 
+const ARRAY: Row = Row {
+    leaves: &[Leaf::Name, Leaf::Number, Leaf::Start],
+    fewest: 3,
+    form: "[name, count, start]",
+};
+
+const CALLED: Row = Row {
+    leaves: &[Leaf::NameOrNone, Leaf::Text],
+    fewest: 2,
+    form: "[name, text]",
+};
+
+const PENDING: Row = Row {
+    leaves: &[Leaf::Number, Leaf::Number, Leaf::Port, Leaf::Number],
+    fewest: 4,
+    form: "[time, microstep, target, value]",
+};
+
 const ACTION: Row = Row {
     leaves: &[Leaf::Name, Leaf::Number],
     fewest: 2,
@@ -162,7 +217,9 @@ pub(crate) fn fields_fail<'v>(
 /// Whether the value under a key is not what it has to be, or is missing; false where a list is not there.
 fn field_fails<'v>(value: &'v Value, key: &'static str, part: Part, at: &mut Trail<'v>) -> bool {
     match (value.get(key), part) {
-        (Some(found), Part::One(leaf)) => leaf_fails(found, leaf, Segment::Key(key), at),
+        (Some(found), Part::One(leaf) | Part::Maybe(leaf)) => {
+            leaf_fails(found, leaf, Segment::Key(key), at)
+        }
         (Some(found), _) => list_fails(found, key, part, at),
         (None, Part::One(_)) => at.fault(Reason::Missing(key)),
         (None, _) => false,
@@ -182,7 +239,9 @@ pub(crate) fn list_fails<'v>(
     for (i, item) in items.iter().enumerate() {
         let segment = Segment::Of(key, i);
         let fails = match part {
-            Part::One(leaf) | Part::Each(leaf) => leaf_fails(item, leaf, segment, at),
+            Part::One(leaf) | Part::Maybe(leaf) | Part::Each(leaf) => {
+                leaf_fails(item, leaf, segment, at)
+            }
             Part::Rows(row) => row_fails(item, row, at) && at.back(segment),
         };
         if fails {
@@ -222,6 +281,31 @@ pub(crate) fn leaf_fails<'v>(
             "no name: 1 to 32 letters, digits and _, the first a letter",
         ),
         Leaf::Port => (port_at(value).is_some(), "no port: REACTOR.PORT, two names"),
+        Leaf::Start => (
+            is_start(value),
+            "no integer of 64 bits, and no list of such",
+        ),
+        Leaf::NameOrNone => (
+            is_name_or_none(value),
+            "no name: 1 to 32 letters, digits and _, the first a letter; nor \"\"",
+        ),
+        Leaf::Text => (
+            printed_at(value).is_some(),
+            "no text of 1 to 120 printed characters without \" and \\",
+        ),
     };
     !is_there && at.fault_at(segment, Reason::Form(value, words))
+}
+
+/// Whether a value is a number, or a list of numbers.
+fn is_start(value: &Value) -> bool {
+    match value.as_array() {
+        Some(items) => items.iter().all(|item| item.as_i64().is_some()),
+        None => value.as_i64().is_some(),
+    }
+}
+
+/// Whether a value is a name, or the empty text.
+fn is_name_or_none(value: &Value) -> bool {
+    name_at(value).is_some() || value.as_str() == Some("")
 }

@@ -22,7 +22,7 @@ concerned-concerned-requires c =
     let target = c.args.target in
     let fits : IsTrue (target_fits (program_places P) target) =
     subst (λ (places : Places). IsTrue (target_fits places target)) c.requires.places c.requires.target in
-    let len : length c.args.plan.now.places ≡ 337 =
+    let len : length c.args.plan.now.places ≡ 1345 =
     ap (λ (plan : Plan). length plan.places) c.requires.plan ∙ length-map-range_with_len (λ n. marks_of P (numbered_place n)) 0 most_places in
     omega (arith, len, place_within P target c.valid.ensures fits)
 

@@ -26,15 +26,15 @@ loop-number-preserved c =
     }
 
 -- the table of as many as there are
-all_filled : (table : List ℕ) (f : ℕ → ℕ) (n : ℕ) → n ≡ 337 → table ≡ map f (range_with_len 0 n) → table ≡ map f place_numbers
+all_filled : (table : List ℕ) (f : ℕ → ℕ) (n : ℕ) → n ≡ 1345 → table ≡ map f (range_with_len 0 n) → table ≡ map f place_numbers
 unfolding place_numbers
 all_filled table f n all so_far = so_far ∙ ap (λ (k : ℕ). map f (range_with_len 0 k)) all
 
 pub returns : goal.returns
 returns c =
     let P = c.args.program.now in
-    let most : c.loop-number.number ≤ 337 = c.loop-number.auto.number-end in
-    let all : c.loop-number.number ≡ 337 = omega (arith, most, c.loop-number-test.false) in
+    let most : c.loop-number.number ≤ 1345 = c.loop-number.auto.number-end in
+    let all : c.loop-number.number ≡ 1345 = omega (arith, most, c.loop-number-test.false) in
     record {
       marks = all_filled _ (λ n. marks_of P (numbered_place n)) c.loop-number.number all c.loop-number.invariant.marks;
       firsts = all_filled _ (λ n. first_heeding (sources_of P) (numbered_place n) 0 (in_turn P)) c.loop-number.number all c.loop-number.invariant.firsts;

@@ -1,7 +1,7 @@
 -- outputs are ports of a valid program, and few enough; those that are not marked are not present
 use Rattle.std.proofs.Common.{◌≡◌, ℕ, ◌+◌, ◌-◌, ◌<◌, ◌≤◌, ◌++◌, List, [], drop, get_or, nat_lt, length, ap, sym, ◌∙◌, subst, arith}
 use Rattle.std.proofs.lemmas.Bool.{ltb-true}
-use Rattle.warp_tag.specs.Limits.{most_outputs}
+use Rattle.warp_tag.specs.Limits.{most_outputs, widest}
 use Rattle.warp_body.specs.Presence.{present_at}
 use Rattle.warp_body.specs.declared.place.Places.{Places}
 use Rattle.warp_body.specs.declared.place.Target.TheVariants as to
@@ -16,7 +16,7 @@ use Rattle.warp_step.proofs.react.put_due_outputs.Goals as goal
 
 pub overflow_cast-number : goal.overflow_cast-number
 overflow_cast-number c =
-    let few : length c.args.program.now.outputs ≤ most_outputs = (validity c.args.program.now c.valid.ensures).limits.outputs in
+    let few : length c.args.program.now.outputs ≤ most_outputs widest = (validity c.args.program.now c.valid.ensures).limits.outputs in
     let same = ap length c.outputs-ports.ensures in
     omega (arith, few, same, c.loop-mark-test.true)
 

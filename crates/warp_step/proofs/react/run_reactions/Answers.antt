@@ -7,7 +7,7 @@ use Rattle.std.specs.Prelude.{◌&&◌, nat_le, if◌then◌else◌}
 use Rattle.std.proofs.lemmas.Bool.{and_parts, eqb-true, leb-true, not-false}
 use Rattle.std.proofs.lemmas.List.{at_drop_all, get_or-map, length-map, length-replicate}
 use Rattle.arrayvec.specs.ArrayVec.{ArrayVec}
-use Rattle.warp_tag.specs.Limits.{most_reactions, most_wishes}
+use Rattle.warp_tag.specs.Limits.{most_reactions, most_wishes, widest}
 use Rattle.warp_body.specs.Effect.{body_fits, schedules_of, wish_fits}
 use Rattle.warp_body.specs.Presence.{places_of, target_fits}
 use Rattle.warp_body.specs.Term.{sizes_of}
@@ -32,9 +32,9 @@ use Rattle.warp_step.proofs.react.run_reactions.Goals as goal
 turns_are : (P : Program) (plan : Plan) → plan ≡ plan_of P → length plan.turns ≡ length P.order
 turns_are P plan is = ap (λ (p : Plan). length p.turns) is ∙ length-map P.order (turn_plan P)
 
-few : (P : Program) → IsTrue (is_valid P) → length P.order ≤ 640
+few : (P : Program) → IsTrue (is_valid P) → length P.order ≤ 2304
 few P valid =
-    let limit : length P.reactions ≤ most_reactions = (validity P valid).limits.reactions in
+    let limit : length P.reactions ≤ most_reactions widest = (validity P valid).limits.reactions in
     let whole = (own_order P valid).whole in
     omega (arith, limit, whole)
 

@@ -1,4 +1,5 @@
-use Rattle.warp_table.proofs.SomeHeard.{some_breach, some_reach}
+use Rattle.warp_table.proofs.SomeHeard.{some_breach}
+use Rattle.warp_table.proofs.SomeJoint.{some_reach}
 use Rattle.warp_table.proofs.honest_law.some_reach.Goals as goal
 
 pub returns-clause-reach : goal.returns-clause-reach

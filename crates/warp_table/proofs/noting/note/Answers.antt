@@ -1,31 +1,71 @@
--- the record is added to what its own origin hears, and with it all origins are heard
-use Rattle.std.proofs.Common.{◌≡◌, ◌<◌, ◌∷◌, ◌++◌, [], ℕ, List, length, set, sym, subst, arith}
+-- a record of an origin is counted, and a joint announcement goes to the others
+use Rattle.std.proofs.Common.{◌≡◌, ◌+◌, ◌<◌, ◌∷◌, ◌++◌, [], ℕ, None, Some, Option, List, length, refl, sym, subst}
+use Rattle.std.specs.Prelude.{IfSome}
 use Rattle.std.proofs.lemmas.Result.{IfOk-weaker}
+use Rattle.warp_tag.specs.Limits.{most_origins, widest}
 use Rattle.warp_record.specs.declared.record.Record.{Record}
-use Rattle.warp_table.specs.Names.{origin_of}
-use Rattle.warp_table.specs.inner.Heard.{AreHeard, Heard}
-use Rattle.warp_table.proofs.HeardNews.{all_heard, looked_up, own_heard}
+use Rattle.warp_record.specs.declared.record.Record.TheVariants.{Event, Withdraw, Announce, Joint}
+use Rattle.warp_record.specs.Order.{kind_of}
+use Rattle.warp_table.specs.Log.{IsAt}
+use Rattle.warp_table.specs.declared.joint.JointAnnouncer.{JointAnnouncer}
+use Rattle.warp_table.specs.declared.rows.Known.{Known}
+use Rattle.warp_table.specs.declared.names.Name.{Name}
+use Rattle.warp_table.specs.inner.Heard.{AreHeard, Heard, nothing_heard}
+use Rattle.warp_table.specs.inner.Joint.{KeepsJoint}
+use Rattle.warp_table.specs.inner.Others.{places}
+use Rattle.warp_table.specs.inner.Kept.{IsAdded, Keeps, OtherPlaces, other_place, put_other}
+use Rattle.warp_table.proofs.AddedRecords.{joint_is_added}
+use Rattle.warp_table.proofs.HeardNews.{all_heard_joint}
+use Rattle.warp_table.proofs.JointNext.{joint_kind, own_kind}
 use Rattle.warp_table.proofs.noting.note.Goals as goal
 
-pub note_own-requires-clause-heard : goal.note_own-requires-clause-heard
-note_own-requires-clause-heard c =
-    let new : List Heard = c.keep_up_to.new.announcers.items in
-    let within : c.origin-origin.result < length new = omega (arith, c.in_ok-keep_up_to.ensures.ok, c.keep_up_to.new.announcers.ok.0) in
-    let own = looked_up new c.origin-origin.result (origin_of c.args.record.now) c.index_mut-announcer.result.now c.index_mut-announcer.ensures.value within c.origin-origin.ensures in
-    own_heard c.args.records.now c.args.announcers.now.items new c.args.record.now c.index_mut-announcer.result.now c.in_ok-keep_up_to.ensures.same own c.requires.heard
+pub note_counted-requires-clause-of : goal.note_counted-requires-clause-of
+note_counted-requires-clause-of c = (own_kind c.args.record.now c.in-Some.origin (sym c.in-Some.ensures)).1
 
-pub returns-clause-new : goal.returns-clause-new
-returns-clause-new c =
-    let old : List Heard = c.args.announcers.now.items in
-    let new : List Heard = c.keep_up_to.new.announcers.items in
-    let said : Record = c.args.record.now in
-    let origin : ℕ = c.origin-origin.result in
-    let after : Heard = c.note_own.new.announcer in
-    let is : origin ≡ origin_of said = c.origin-origin.ensures in
-    let within : origin < length new = omega (arith, c.in_ok-keep_up_to.ensures.ok, c.keep_up_to.new.announcers.ok.0) in
-    IfOk-weaker c.note_own.result _ _ (λ added adds new_one.
-    let says = adds new_one in (
-      says.0,
-      subst (λ (o : ℕ). AreHeard (c.args.records.now ++ said ∷ []) (set new o after)) (sym is)
-          (all_heard c.args.records.now old new said after c.in_ok-keep_up_to.ensures.same c.in_ok-keep_up_to.ensures.few (subst (λ (o : ℕ). o < length new) is within) c.requires.heard says.1),
-    )) c.note_own.ensures.new
+pub note_counted-requires-clause-own : goal.note_counted-requires-clause-own
+note_counted-requires-clause-own c = (own_kind c.args.record.now c.in-Some.origin (sym c.in-Some.ensures)).0
+
+pub note_counted-requires-clause-origin : goal.note_counted-requires-clause-origin
+note_counted-requires-clause-origin c = subst (λ (o : Option ℕ). IfSome o (λ origin. origin < most_origins widest)) (sym c.in-Some.ensures) c.requires.origin
+
+pub note_joint-requires-clause-of : goal.note_joint-requires-clause-of
+note_joint-requires-clause-of c = joint_kind c.args.record.now (sym c.in-None.ensures)
+
+-- a joint announcement among the records
+joint_new : (records : List Record) (names : List (Name × Known)) (others now : OtherPlaces) (heards : List Heard) (said : Record) (place : ℕ) → kind_of said ≡ 3 → Keeps records names others → AreHeard records heards →
+    other_place others said ≡ None → place ≡ length records + 1 → now ≡ put_other others said (length records + 1) → IsAdded records said place names now × AreHeard (records ++ said ∷ []) heards
+joint_new records names others now heards (Joint tag events withdrawn) place kind keeps heard none last put =
+    (joint_is_added records names others keeps nothing_heard tag events withdrawn place (length records + 1) now refl last none put, all_heard_joint records heards tag events withdrawn heard)
+joint_new records names others now heards (Event o tag input value) place kind keeps heard none last put = absurd (cc)
+joint_new records names others now heards (Withdraw o tag) place kind keeps heard none last put = absurd (cc)
+joint_new records names others now heards (Announce o tag events withdrawn) place kind keeps heard none last put = absurd (cc)
+
+pub returns-in-None-clause-new : goal.returns-in-None-clause-new
+returns-in-None-clause-new c =
+    IfOk-weaker c.note_joint.result _ _ (λ added adds new.
+    let says = adds new in
+    let both = joint_new c.args.records.now c.args.names.now (places c.args.others.now) (places c.note_joint.new.others) c.args.announcers.now.items c.args.record.now added.place
+    (joint_kind c.args.record.now (sym c.in-None.ensures)) c.requires.keeps c.requires.heard says.0 says.1 says.2 in (
+      both.0,
+      subst (λ (hs : List Heard). AreHeard (c.args.records.now ++ c.args.record.now ∷ []) hs) (sym c.note_joint.ensures.same) both.1,
+      subst (λ (hs : List Heard). KeepsJoint (c.args.records.now ++ c.args.record.now ∷ []) hs c.note_joint.new.joint) (sym c.note_joint.ensures.same) says.3,
+    )) c.note_joint.ensures.new
+
+-- a joint announcement that is known stands at its place
+joint_at : (records : List Record) (names : List (Name × Known)) (others : OtherPlaces) (said : Record) (place : ℕ) → kind_of said ≡ 3 → Keeps records names others → other_place others said ≡ Some place → IsAt records place said
+joint_at records names others (Joint tag events withdrawn) place kind keeps is = keeps.places.so (Joint tag events withdrawn) place is
+joint_at records names others (Event o tag input value) place kind keeps is = absurd (cc)
+joint_at records names others (Withdraw o tag) place kind keeps is = absurd (cc)
+joint_at records names others (Announce o tag events withdrawn) place kind keeps is = absurd (cc)
+
+pub returns-in-None-clause-known : goal.returns-in-None-clause-known
+returns-in-None-clause-known c =
+    IfOk-weaker c.note_joint.result _ _ (λ added says known.
+    let is = says known in (
+      joint_at c.args.records.now c.args.names.now (places c.args.others.now) c.args.record.now added.place (joint_kind c.args.record.now (sym c.in-None.ensures)) c.requires.keeps is.0,
+      refl,
+      is.1,
+      subst (λ (hs : List Heard). AreHeard c.args.records.now hs) (sym c.note_joint.ensures.same) c.requires.heard,
+      subst (λ (hs : List Heard). KeepsJoint c.args.records.now hs c.note_joint.new.joint) (sym c.note_joint.ensures.same)
+          (subst (λ (j : JointAnnouncer). KeepsJoint c.args.records.now c.args.announcers.now.items j) (sym is.2) c.requires.joint),
+    )) c.note_joint.ensures.known

@@ -2,7 +2,7 @@
 use Rattle.std.proofs.Common.{◌≡◌, ◌<◌, ◌∷◌, ◌++◌, [], ℕ, Option, List, length, set, refl, ap, sym, subst, ◌+◌, ◌∙◌, arith}
 use Rattle.std.specs.Option.{unwrap_or}
 use Rattle.warp_record.specs.declared.record.Record.{Record}
-use Rattle.warp_table.specs.Names.{origin_of}
+use Rattle.warp_table.specs.Names.{origin_or_first}
 use Rattle.warp_table.specs.Records.{set_of}
 use Rattle.warp_table.specs.declared.names.Name.{Name}
 use Rattle.warp_table.specs.declared.rows.Known.{Known}
@@ -20,9 +20,9 @@ insert_last-requires c =
     let all : List Heard = c.args.announcers.now.items in
     let own : Heard = c.index_mut-announcer.result.now in
     let name : Name = record { origin = said.origin; tag = said.tag } in
-    let same : said.origin ≡ origin_of c.args.record.now = sym (ap origin_of said.is) in
+    let same : said.origin ≡ origin_or_first c.args.record.now = sym (ap origin_or_first said.is) in
     let within : said.origin < length all = omega (arith, c.if-len-origin.false, c.len.ensures, c.args.announcers.now.ok.0) in
-    let at = looked_up all said.origin (origin_of c.args.record.now) own c.index_mut-announcer.ensures.value within same in
+    let at = looked_up all said.origin (origin_or_first c.args.record.now) own c.index_mut-announcer.ensures.value within same in
     let heard : IsHeard (set_of c.args.records.now) said.origin own =
     subst (λ (o : ℕ). IsHeard (set_of c.args.records.now) o own) (sym same) (own_heard c.args.records.now all all c.args.record.now own (λ o. refl) at c.requires.heard) in
     record {
@@ -38,9 +38,9 @@ returns-clause-came c = λ came.
     let own : Heard = c.index_mut-announcer.result.now in
     let own_now : Heard = c.insert_last.new.announcer in
     let name : Name = record { origin = said.origin; tag = said.tag } in
-    let same : said.origin ≡ origin_of c.args.record.now = sym (ap origin_of said.is) in
+    let same : said.origin ≡ origin_or_first c.args.record.now = sym (ap origin_or_first said.is) in
     let within : said.origin < length all = omega (arith, c.if-len-origin.false, c.len.ensures, c.args.announcers.now.ok.0) in
-    let at = looked_up all said.origin (origin_of c.args.record.now) own c.index_mut-announcer.ensures.value within same in
+    let at = looked_up all said.origin (origin_or_first c.args.record.now) own c.index_mut-announcer.ensures.value within same in
     let heard : IsHeard (set_of records) said.origin own =
     subst (λ (o : ℕ). IsHeard (set_of records) o own) (sym same) (own_heard records all all c.args.record.now own (λ o. refl) at c.requires.heard) in
     let ok = c.insert_last.ensures in
@@ -53,7 +53,7 @@ returns-clause-came c = λ came.
     let told = event_added records c.args.names.now (places c.args.others.now) c.requires.keeps own name heard (said.input, said.value) (length records + 1) event
     c.insert_last.new.self (places c.args.others.now) own_now refl put notes in
     let both = subst (λ (x : Record). IsAdded records x (length records + 1) c.insert_last.new.self (places c.args.others.now)
-    × IsHeard (set_of (records ++ x ∷ [])) (origin_of x) own_now) (sym said.is) (told.added, told.heard) in (
+    × IsHeard (set_of (records ++ x ∷ [])) (origin_or_first x) own_now) (sym said.is) (told.added, told.heard) in (
       both.0,
       subst (λ (o : ℕ). AreHeard (records ++ c.args.record.now ∷ []) (set all o own_now)) (sym same)
           (all_heard records all all c.args.record.now own_now (λ o. refl) c.requires.heard.few (subst (λ (o : ℕ). o < length all) same within) c.requires.heard both.1),

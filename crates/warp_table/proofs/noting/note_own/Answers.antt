@@ -5,7 +5,7 @@ use Rattle.std.proofs.lemmas.Result.{IfOk-weaker}
 use Rattle.warp_record.specs.declared.record.Record.{Record}
 use Rattle.warp_record.specs.declared.record.Record.TheVariants.{Event, Withdraw, Announce}
 use Rattle.warp_table.specs.Log.{IsAt}
-use Rattle.warp_table.specs.Names.{origin_of}
+use Rattle.warp_table.specs.Names.{origin_or_first}
 use Rattle.warp_table.specs.Records.{set_of}
 use Rattle.warp_table.specs.declared.names.Name.{Name}
 use Rattle.warp_table.specs.inner.Heard.{Announced, IsHeard}
@@ -17,19 +17,19 @@ use Rattle.warp_table.proofs.noting.note_own.Goals as goal
 pub add_event-requires-clause-kept : goal.add_event-requires-clause-kept
 add_event-requires-clause-kept c =
     let said = c.in-Event in
-    let heard = subst (λ (x : Record). IsHeard (set_of c.args.records.now) (origin_of x) c.args.announcer.now) said.is c.requires.heard in
+    let heard = subst (λ (x : Record). IsHeard (set_of c.args.records.now) (origin_or_first x) c.args.announcer.now) said.is c.requires.heard in
     holds c.args.records.now c.args.names.now (places c.args.others.now) c.requires.keeps c.args.announcer.now (record { origin = said.origin; tag = said.tag }) heard
 
 pub add_event-requires-clause-fresh : goal.add_event-requires-clause-fresh
 add_event-requires-clause-fresh c =
     let said = c.in-Event in
-    let heard = subst (λ (x : Record). IsHeard (set_of c.args.records.now) (origin_of x) c.args.announcer.now) said.is c.requires.heard in
+    let heard = subst (λ (x : Record). IsHeard (set_of c.args.records.now) (origin_or_first x) c.args.announcer.now) said.is c.requires.heard in
     event_fresh c.args.records.now c.args.names.now (places c.args.others.now) c.requires.keeps c.args.announcer.now (record { origin = said.origin; tag = said.tag }) heard
 
 pub add_withdrawal-requires : goal.add_withdrawal-requires
 add_withdrawal-requires c =
     let said = c.in-Withdraw in
-    let heard = subst (λ (x : Record). IsHeard (set_of c.args.records.now) (origin_of x) c.args.announcer.now) said.is c.requires.heard in
+    let heard = subst (λ (x : Record). IsHeard (set_of c.args.records.now) (origin_or_first x) c.args.announcer.now) said.is c.requires.heard in
     withdrawal_fresh c.args.records.now c.args.names.now (places c.args.others.now) c.requires.keeps c.args.announcer.now (record { origin = said.origin; tag = said.tag }) heard
 
 pub returns-in_ok-noted-in-Event-clause-new : goal.returns-in_ok-noted-in-Event-clause-new
@@ -38,12 +38,12 @@ returns-in_ok-noted-in-Event-clause-new c = λ new.
     let whole : to_z w64 (of_z w64 said.value) ≡ said.value = search rules in
     let is : Event said.origin said.tag said.input (to_z w64 (of_z w64 said.value)) ≡ c.args.record.now = ap (Event said.origin said.tag said.input) whole ∙ sym said.is in
     let name : Name = record { origin = said.origin; tag = said.tag } in
-    let heard = subst (λ (x : Record). IsHeard (set_of c.args.records.now) (origin_of x) c.args.announcer.now) said.is c.requires.heard in
+    let heard = subst (λ (x : Record). IsHeard (set_of c.args.records.now) (origin_or_first x) c.args.announcer.now) said.is c.requires.heard in
     let says = c.in_ok-noted-in-Event.ensures.new new in
     let told = event_added c.args.records.now c.args.names.now (places c.args.others.now) c.requires.keeps c.args.announcer.now name heard (said.input, to_z w64 (of_z w64 said.value))
     c.in_ok-noted-in-Event.noted.added.place c.in_ok-noted-in-Event.noted.event c.add_event.new.names (places c.add_event.new.others) c.add_event.new.announcer says.0 says.1 says.2 in
     subst (λ (x : Record). IsAdded c.args.records.now x c.in_ok-noted-in-Event.noted.added.place c.add_event.new.names (places c.add_event.new.others)
-    × IsHeard (set_of (c.args.records.now ++ x ∷ [])) (origin_of x) c.add_event.new.announcer) is (told.added, told.heard)
+    × IsHeard (set_of (c.args.records.now ++ x ∷ [])) (origin_or_first x) c.add_event.new.announcer) is (told.added, told.heard)
 
 pub returns-in_ok-noted-in-Event-clause-known : goal.returns-in_ok-noted-in-Event-clause-known
 returns-in_ok-noted-in-Event-clause-known c = λ known.
@@ -57,13 +57,13 @@ returns-in_ok-noted-in-Event-clause-known c = λ known.
 pub returns-in-Withdraw-clause-new : goal.returns-in-Withdraw-clause-new
 returns-in-Withdraw-clause-new c =
     let said = c.in-Withdraw in
-    let heard = subst (λ (x : Record). IsHeard (set_of c.args.records.now) (origin_of x) c.args.announcer.now) said.is c.requires.heard in
+    let heard = subst (λ (x : Record). IsHeard (set_of c.args.records.now) (origin_or_first x) c.args.announcer.now) said.is c.requires.heard in
     IfOk-weaker c.add_withdrawal.result _ _ (λ added adds new.
     let says = adds new in
     let told = withdrawal_added c.args.records.now c.args.names.now (places c.args.others.now) c.requires.keeps c.args.announcer.now (record { origin = said.origin; tag = said.tag }) heard
     added.place _ c.add_withdrawal.new.names (places c.args.others.now) c.add_withdrawal.new.announcer refl says.0 says.1 says.2 refl says.3 in
     subst (λ (x : Record). IsAdded c.args.records.now x added.place c.add_withdrawal.new.names (places c.args.others.now)
-    × IsHeard (set_of (c.args.records.now ++ x ∷ [])) (origin_of x) c.add_withdrawal.new.announcer) (sym said.is) (told.added, told.heard)) c.add_withdrawal.ensures.new
+    × IsHeard (set_of (c.args.records.now ++ x ∷ [])) (origin_or_first x) c.add_withdrawal.new.announcer) (sym said.is) (told.added, told.heard)) c.add_withdrawal.ensures.new
 
 pub returns-in-Withdraw-clause-known : goal.returns-in-Withdraw-clause-known
 returns-in-Withdraw-clause-known c =
@@ -75,7 +75,7 @@ returns-in-Withdraw-clause-known c =
 pub returns-in-Announce-clause-new : goal.returns-in-Announce-clause-new
 returns-in-Announce-clause-new c =
     let said = c.in-Announce in
-    let heard = subst (λ (x : Record). IsHeard (set_of c.args.records.now) (origin_of x) c.args.announcer.now) said.is c.requires.heard in
+    let heard = subst (λ (x : Record). IsHeard (set_of c.args.records.now) (origin_or_first x) c.args.announcer.now) said.is c.requires.heard in
     let a : Announced = record { tag = said.tag; events = said.events; withdrawn = said.withdrawn } in
     let same : record { tag = said.tag; events = c.get-events.result; withdrawn = c.get-withdrawn.result } ≡ a = (λ i. record { tag = said.tag; events = c.get-events.ensures.value i; withdrawn = c.get-withdrawn.ensures.value i }) in
     IfOk-weaker c.add_announcement.result _ _ (λ added adds new.
@@ -86,7 +86,7 @@ returns-in-Announce-clause-new c =
     (says.2 ∙ ap (λ (x : Record). put_other (places c.args.others.now) x (length c.args.records.now + 1)) said.is) says.3
     (subst (λ (b : Announced). (x : Announced) → Contains c.add_announcement.new.announcer.announced x ↔ Contains c.args.announcer.now.announced x ⊎ (x ≡ b)) same says.4) in
     subst (λ (x : Record). IsAdded c.args.records.now x added.place c.args.names.now (places c.add_announcement.new.others)
-    × IsHeard (set_of (c.args.records.now ++ x ∷ [])) (origin_of x) c.add_announcement.new.announcer) (sym said.is) (told.added, told.heard)) c.add_announcement.ensures.new
+    × IsHeard (set_of (c.args.records.now ++ x ∷ [])) (origin_or_first x) c.add_announcement.new.announcer) (sym said.is) (told.added, told.heard)) c.add_announcement.ensures.new
 
 pub returns-in-Announce-clause-known : goal.returns-in-Announce-clause-known
 returns-in-Announce-clause-known c =

@@ -1,5 +1,5 @@
--- No origin of the program is broken, and no other can be.
-use Rattle.std.proofs.Common.{◌≡◌, ◌∙◌, ◌<◌, ap, arith, subst}
+-- No origin of the program is broken, and no other can be; nor is a joint announcement.
+use Rattle.std.proofs.Common.{◌≡◌, ◌∙◌, ◌<◌, ap, arith, subst, sym}
 use Rattle.warp_step.proofs.ValidLemmas.{validity}
 use Rattle.warp_watch.proofs.Shownness.{none_broken}
 use Rattle.warp_watch.proofs.shown.is_honest.Goals as goal
@@ -12,3 +12,4 @@ returns g c =
     let many : c.origins-origins.result ≡ r.program.origins = c.origins-origins.ensures ∙ ap (λ P. P.origins) c.program-2.ensures in
     λ yes. none_broken r.program r.records c.valid-2.ensures.allowed some.0 some.1
     (λ origin below. c.loop-origin.invariant some.0 some.1 origin (omega (arith, below, many, c.loop-origin-test.false)))
+    (sym (c.is_jointly_broken.ensures some.0 some.1) ∙ c.if-is_jointly_broken.false)

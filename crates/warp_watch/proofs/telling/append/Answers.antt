@@ -4,7 +4,7 @@ use Rattle.warp_step.proofs.ValidLemmas.{validity}
 use Rattle.warp_table.specs.Announced.{beginning}
 use Rattle.warp_watch.specs.Lines.{first_place, page_count, release_line}
 use Rattle.warp_watch.specs.Telling.{ends_frozen, next_of, releases_line, tells_frozen}
-use Rattle.warp_watch.specs.declared.question.Question.TheVariants.{Counts, Reached, Log, Released, Vars}
+use Rattle.warp_watch.specs.declared.question.Question.TheVariants.{Cells, Counts, Reached, Log, Released, Vars}
 use Rattle.warp_watch.specs.declared.question.Question.TheVariants.{Releases, Release, Horizon, Breaches}
 use Rattle.warp_watch.proofs.Tellings.{horizon_told, log_told, no_origin, released_told, told_on}
 use Rattle.warp_watch.proofs.telling.append.Goals as goal
@@ -52,6 +52,12 @@ returns-in-Vars g c =
     let r = c.args.replica.now in
     told_on c.add_vars.result r.program r.records c.args.shown.now c.args.text.now.items c.add_vars.new.text.items Vars c.args.question.now
     c.in-Vars.is c.add_vars.ensures (λ told. (told.0, told.1, (no_origin, tt, told.2)))
+
+pub returns-in-Cells : goal.returns-in-Cells
+returns-in-Cells g c =
+    let r = c.args.replica.now in
+    told_on c.add_cells.result r.program r.records c.args.shown.now c.args.text.now.items c.add_cells.new.text.items (Cells c.in-Cells.first c.in-Cells.count)
+    c.args.question.now c.in-Cells.is c.add_cells.ensures (λ told. (told.0, told.1, (no_origin, tt, told.2)))
 
 pub returns-in-Counts : goal.returns-in-Counts
 returns-in-Counts g c =

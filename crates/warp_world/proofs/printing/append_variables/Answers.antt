@@ -9,9 +9,9 @@ loop-number-preserved g c =
     let r = c.args.replica.now in
     let many : c.variable_count-number-end.result ≡ length r.program.variables =
     c.variable_count-number-end.ensures ∙ ap (λ P. length P.variables) c.program.ensures in
-    one_variable_more r.program r.records c.loop-number.number c.args.text.now.items c.loop-number.text.items c.append_answer.new.text.items
+    one_variable_more r.program r.records c.loop-number.number c.args.text.now.items c.loop-number.text.items c.append_variable.new.text.items
     (subst (λ count. c.loop-number.number < count) many c.loop-number-test.true)
-    c.loop-number.invariant c.in_ok-append_answer.ensures
+    c.loop-number.invariant c.in_ok-append_variable.ensures
 
 pub returns : goal.returns
 returns g c =

@@ -9,9 +9,11 @@ returns-in-Ok-program_account-clause-ok c =
     let canonical = string_bytes named.canonical in (
       named.program,
       named.labels,
+      named.work,
       canonical,
       c.in-Ok.ensures.program,
       c.in-Ok.ensures.labels,
+      c.in-Ok.ensures.work,
       c.in-Ok.ensures.canonical,
-      c.in-Ok-program_account.ensures ∙ ap (account_text named.program named.labels canonical) c.account_options.ensures,
+      c.in-Ok-program_account.ensures ∙ ap (account_text named.program named.labels named.work canonical) c.account_options.ensures,
     )

@@ -17,3 +17,13 @@ returns-in_ok-b-in-If t c =
     let a = c.in_ok-a-in-If.ensures _ c.copy-in-If-2.ensures in
     let b = c.in_ok-b-in-If.ensures _ c.copy-in-If-3.ensures in
     search rules
+
+pub returns-in_ok-c-in-MultiplyDivide : goal.returns-in_ok-c-in-MultiplyDivide
+returns-in_ok-c-in-MultiplyDivide t c =
+    let a = c.in_ok-a-in-MultiplyDivide.ensures _ c.copy-in-MultiplyDivide.ensures in
+    let b = c.in_ok-b-in-MultiplyDivide.ensures _ c.copy-in-MultiplyDivide-2.ensures in
+    let d = c.in_ok-c-in-MultiplyDivide.ensures _ c.copy-in-MultiplyDivide-3.ensures in
+    search rules
+
+pub returns-in_ok-index-in-At : goal.returns-in_ok-index-in-At
+returns-in_ok-index-in-At t c = let a = c.in_ok-index-in-At.ensures _ c.copy-in-At.ensures in search rules

@@ -36,6 +36,6 @@ returns-in-Some c =
     let inside = c.self.inside in
     let kept = c.self.invariant in
     let later : m < n = omega arith in
-    none_later m n inside.startup inside.timers.places.items inside.actions.places.items inside.ports.places.items inside.sources.items
+    none_later c.args.tag m n inside.startup inside.timers.places.items inside.actions.places.items inside.ports.places.items inside.sources.items
     kept.1 kept.2 kept.3 kept.4 later
-    ∙ ap (λ (p : Presence). nothing_present (places_of p) p.sources) c.self.view_is
+    ∙ ap (λ (p : Presence). nothing_present c.args.tag (places_of p) p.sources) c.self.view_is

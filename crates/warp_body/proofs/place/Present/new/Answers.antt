@@ -1,6 +1,9 @@
 -- all places are empty
 use Rattle.std.proofs.Common.{◌≡◌, ◌<◌, IsTrue, length, nat_le, ap, ◌∙◌, sym, subst, refl, arith}
 use Rattle.std.proofs.lemmas.List.{length-map, length-replicate}
+use Rattle.warp_tag.specs.Moment.{Moment}
+use Rattle.warp_body.specs.Presence.{nothing_present}
+use Rattle.warp_body.specs.declared.place.Places.{Places}
 use Rattle.warp_body.specs.declared.slots.Slot.{Slot}
 use Rattle.warp_body.specs.inner.Slots.{empty, slot, slots}
 use Rattle.warp_body.proofs.SlotLemmas.{past_emptied, sources_fit, none_empty}
@@ -23,5 +26,7 @@ invariant_of-result c =
 
 pub returns : goal.returns
 returns c =
-    none_empty _ _ _ _ _ _ _ c.args.sources.items c.empty.ensures
+    let places : Places = record { timers = c.args.places.timers; actions = c.args.places.actions; ports = c.args.places.ports } in
+    none_empty c.beginning_of.result _ _ _ _ _ _ _ c.args.sources.items c.empty.ensures
     c.in_ok-timers.ensures c.in_ok-actions.ensures c.in_ok-ports.ensures
+    ∙ ap (λ (t : Moment). nothing_present t places c.args.sources.items) c.beginning_of.ensures

@@ -31,8 +31,8 @@ returns c =
     let m = inside.moment in
     let as_many : (ps : List Slot) → replicate (length ps) empty ≡ replicate (length (slots m ps)) empty
     = λ ps. ap (λ (k : ℕ). replicate k empty) (sym (length-map ps (slot m))) in
-    none_empty _ _ _ _ _ _ _ inside.sources.items c.empty-self-inside.ensures
+    none_empty inside.tag _ _ _ _ _ _ _ inside.sources.items c.empty-self-inside.ensures
     (c.restart.ensures ∙ as_many inside.timers.places.items)
     (c.restart-2.ensures ∙ as_many inside.actions.places.items)
     (c.restart-3.ensures ∙ as_many inside.ports.places.items)
-    ∙ ap (λ (p : Presence). nothing_present (places_of p) p.sources) c.self.view_is
+    ∙ ap (λ (p : Presence). nothing_present p.tag (places_of p) p.sources) c.self.view_is

@@ -1,4 +1,4 @@
-use Rattle.std.proofs.Common.{◌++◌, map, string_bytes, sym, ◌∙◌, refl}
+use Rattle.std.proofs.Common.{map, string_bytes, sym, ◌∙◌, refl}
 use Rattle.warp_prog.specs.Canonical.{separated}
 use Rattle.warp_prog.proofs.CanonicalLemmas.{parts_all, parts_more}
 use Rattle.warp_prog.proofs.canonical.list.spell_each.Goals as goal

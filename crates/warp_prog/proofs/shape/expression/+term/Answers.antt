@@ -3,25 +3,34 @@ use Rattle.std.proofs.Common.{◌≡◌, Some, option_map, ap, sym, ◌∙◌}
 use Rattle.serde_json.specs.View.{view, items_view}
 use Rattle.warp_prog.specs.Terms.{term_of}
 use Rattle.warp_prog.specs.inner.Read.{first_word}
-use Rattle.warp_prog.proofs.ItemLemmas.{too_few, too_many}
-use Rattle.warp_prog.proofs.ReadLemmas.{presence_row, one_row, two_row, three_row}
+use Rattle.warp_prog.proofs.ItemLemmas.{too_many}
+use Rattle.warp_prog.proofs.ReadLemmas.{none_row, presence_row, one_row, two_row, three_row}
 use Rattle.warp_prog.proofs.shape.expression.+term.Goals as goal
 
-pub parts-returns-in-len1-clause-err : goal.parts-returns-in-len1-clause-err
-parts-returns-in-len1-clause-err t c = λ e. too_few _ c.in-len1.len_below
-
-pub parts-returns-in-len3-clause-ok : goal.parts-returns-in-len3-clause-ok
-parts-returns-in-len3-clause-ok t c =
+pub parts-returns-in-len1-clause-ok : goal.parts-returns-in-len1-clause-ok
+parts-returns-in-len1-clause-ok t c =
     let word : first_word (items_view c.args.items.now) ≡ Some c.in-Some.word.now = sym c.first_word.ensures ∙ ap (option_map (λ w. w.now)) c.in-Some.is in
-    let row = two_row c.args.items.now c.in-Some.word.now c.first-item.result c.second-item.result c.in-len3.len_at_least c.in-len3.len_below word c.first-item.is c.second-item.is in
+    let row = none_row c.args.items.now c.in-Some.word.now c.in-len1.len_at_least c.in-len1.len_below word in
+    rw row c.with_none.ensures.ok
+
+pub parts-returns-in-len1-clause-err : goal.parts-returns-in-len1-clause-err
+parts-returns-in-len1-clause-err t c =
+    let word : first_word (items_view c.args.items.now) ≡ Some c.in-Some.word.now = sym c.first_word.ensures ∙ ap (option_map (λ w. w.now)) c.in-Some.is in
+    let row = none_row c.args.items.now c.in-Some.word.now c.in-len1.len_at_least c.in-len1.len_below word in
+    rw row c.with_none.ensures.err
+
+pub parts-returns-else-eq-2-clause-ok : goal.parts-returns-else-eq-2-clause-ok
+parts-returns-else-eq-2-clause-ok t c =
+    let word : first_word (items_view c.args.items.now) ≡ Some c.in-Some.word.now = sym c.first_word.ensures ∙ ap (option_map (λ w. w.now)) c.in-Some.is in
+    let row = two_row c.args.items.now c.in-Some.word.now c.first-item.result c.second-item.result c.in-len3.len_at_least c.in-len3.len_below word c.first-item.is c.second-item.is c.if-eq-2.ensures in
     let made = c.with_two.ensures (term_of (view c.first-item.result)) (term_of (view c.second-item.result))
     (record { ok = c.expression-first.ensures.ok; err = c.expression-first.ensures.err }) (record { ok = c.expression-second.ensures.ok; err = c.expression-second.ensures.err }) in
     rw row made.ok
 
-pub parts-returns-in-len3-clause-err : goal.parts-returns-in-len3-clause-err
-parts-returns-in-len3-clause-err t c =
+pub parts-returns-else-eq-2-clause-err : goal.parts-returns-else-eq-2-clause-err
+parts-returns-else-eq-2-clause-err t c =
     let word : first_word (items_view c.args.items.now) ≡ Some c.in-Some.word.now = sym c.first_word.ensures ∙ ap (option_map (λ w. w.now)) c.in-Some.is in
-    let row = two_row c.args.items.now c.in-Some.word.now c.first-item.result c.second-item.result c.in-len3.len_at_least c.in-len3.len_below word c.first-item.is c.second-item.is in
+    let row = two_row c.args.items.now c.in-Some.word.now c.first-item.result c.second-item.result c.in-len3.len_at_least c.in-len3.len_below word c.first-item.is c.second-item.is c.if-eq-2.ensures in
     let made = c.with_two.ensures (term_of (view c.first-item.result)) (term_of (view c.second-item.result))
     (record { ok = c.expression-first.ensures.ok; err = c.expression-first.ensures.err }) (record { ok = c.expression-second.ensures.ok; err = c.expression-second.ensures.err }) in
     rw row made.err

@@ -9,12 +9,13 @@ use Rattle.warp_replica.proofs.replica.Replica.is_before_horizon.Goals as goal
 pub returns-then-not-is_before : goal.returns-then-not-is_before
 returns-then-not-is_before g c =
     let r = c.self.inside in
+    let origin = c.in-Some.origin in
     let told = announced_to r.program r.table c.valid.ensures in
-    let below : c.args.origin < c.origins.result = grind (c.if-origin-origins.true, nat_tests, arith) in
+    let below : origin < c.origins.result = grind (c.if-origin-origins.true, nat_tests, arith) in
     let past : is_before c.args.tag c.reached.result ≡ false = sym c.is_before.ensures ∙ c.if-not-is_before.true in
     subst (λ s. (horizon : Moment) × IsHorizon s.program (set_of s.records) horizon × (false ≡ is_before c.args.tag horizon)) c.self.view_is (
       told.horizon,
       told.reached,
-      sym (past_reached r.program (set_of r.table) c.args.origin c.reached.result c.args.tag told.horizon (omega (arith, below, c.origins.ensures))
+      sym (past_reached r.program (set_of r.table) origin c.reached.result c.args.tag told.horizon (omega (arith, below, c.origins.ensures))
           c.reached.ensures past told.reached),
     )

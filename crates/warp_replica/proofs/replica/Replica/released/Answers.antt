@@ -2,7 +2,7 @@
 use Rattle.std.proofs.Common.{rules, ◌<◌, length, take, refl, sym, ap, subst, ◌∙◌}
 use Rattle.std.proofs.lemmas.List.Elements.{All-take}
 use Rattle.std.proofs.lemmas.List.Sorted.{IsPartitionPoint-from_clause}
-use Rattle.warp_tag.specs.Limits.{most_outputs}
+use Rattle.warp_tag.specs.Limits.{most_outputs, widest}
 use Rattle.warp_tag.specs.declared.out.Out.{Out}
 use Rattle.warp_tag.specs.Moment.{is_before}
 use Rattle.warp_tag.specs.Table.{live}
@@ -39,5 +39,5 @@ returns-clause-ports g c =
     let r = c.self.inside in
     let outs = c.outputs-outputs.result.now in
     let stood = c.outputs-outputs.ensures _ c.self.invariant.1.1 in
-    All-take (λ (out : Out). out.port < most_outputs) c.partition_point-count.result outs
+    All-take (λ (out : Out). out.port < most_outputs widest) c.partition_point-count.result outs
     (few_ports r.program (live (table_of r.table)) c.self.invariant.1.0 stood.0 c.valid-2.ensures outs stood.1)

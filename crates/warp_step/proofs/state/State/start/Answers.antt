@@ -1,7 +1,7 @@
 -- the start state is the program's
 use Rattle.std.proofs.Common.{◌≡◌, ◌≤◌, ℤ, List, [], IsTrue, length, map, rules, ap, subst, sym, ◌∙◌, arith}
 use Rattle.std.proofs.lemmas.List.{length-map}
-use Rattle.warp_tag.specs.Limits.{most_variables}
+use Rattle.warp_tag.specs.Limits.{most_variables, widest}
 use Rattle.warp_step.specs.Program.{Program}
 use Rattle.warp_step.specs.Valid.{is_valid}
 use Rattle.warp_step.specs.declared.parts.Variable.{Variable}
@@ -18,7 +18,7 @@ returns-clause-of_program c =
 
 -- nothing is pending yet, and a valid program has few variables
 new_fits : (P : Program) (items : List Variable) (pending : List Waiting) (values vars : List ℤ) → IsTrue (is_valid P) → pending ≡ [] → vars ≡ values
-    → values ≡ map (λ v. v.start) items → items ≡ P.variables → AreInOrder pending × (length vars ≤ most_variables)
+    → values ≡ map (λ v. v.start) items → items ≡ P.variables → AreInOrder pending × (length vars ≤ most_variables widest)
 new_fits P items pending values vars valid none taken starts all =
     let count : length vars ≡ length P.variables = ap length (taken ∙ starts) ∙ length-map items (λ (v : Variable). v.start) ∙ ap length all in
     (subst AreInOrder (sym none) tt, omega (arith, (validity P valid).limits.variables, count))

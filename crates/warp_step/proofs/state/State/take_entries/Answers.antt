@@ -36,13 +36,13 @@ returns-then-not-is_at-clause-present c =
     (none c).present ∙ ap (arrived_entries (filter (λ w. is_same w.tag c.args.tag) c.args.self.now.pending)) c.requires.absent
 
 pub returns-then-not-is_at-clause-due : goal.returns-then-not-is_at-clause-due
-returns-then-not-is_at-clause-due c = absent_due c.args.program.now c.args.present.now _ c.requires.absent
+returns-then-not-is_at-clause-due c = absent_due c.args.program.now c.args.tag c.args.present.now _ c.requires.absent
 
 pub returns-then-not-is_at-clause-triggered_turn : goal.returns-then-not-is_at-clause-triggered_turn
 returns-then-not-is_at-clause-triggered_turn c = none_sure c.args.program.now c.args.present.now c.none.result.first c.valid.ensures c.none.ensures.first
 
 -- the first entry is taken
-one : (c : goal.After-take_one) → Taken c.args.tag c.args.self.now (drop 1 c.args.self.now.pending) (absent c.args.program.now) c.take_one.new.present
+one : (c : goal.After-take_one) → Taken c.args.tag c.args.self.now (drop 1 c.args.self.now.pending) (absent c.args.program.now c.args.tag) c.take_one.new.present
 one c =
     let t = c.args.tag in
     let ws = c.self.inside.pending in
@@ -51,8 +51,8 @@ one c =
     (first_here t ws (sym (c.is_at.ensures ∙ ap (λ (xs : List Waiting). stands_at t xs 0) c.as_slice.ensures.value) ∙ c.if-not-is_at.false)).1 in
     let other : HasOtherHead t (drop 1 ws) =
     other_head t ws 1 (sym (c.is_at-2.ensures ∙ ap (λ (xs : List Waiting). stands_at t xs 1) c.as_slice-2.ensures.value) ∙ c.if-is_at.false) in
-    taken t c.args.self.now ws (drop 1 c.args.self.now.pending) 1 (absent c.args.program.now) c.take_one.new.present same c.self.invariant.0 c.requires.none_before here other
-    (ap (drop 1) (sym same)) (c.take_one.ensures.present ∙ ap (λ (xs : List Waiting). arrived_entries (take 1 xs) (absent c.args.program.now)) (sym same))
+    taken t c.args.self.now ws (drop 1 c.args.self.now.pending) 1 (absent c.args.program.now c.args.tag) c.take_one.new.present same c.self.invariant.0 c.requires.none_before here other
+    (ap (drop 1) (sym same)) (c.take_one.ensures.present ∙ ap (λ (xs : List Waiting). arrived_entries (take 1 xs) (absent c.args.program.now c.args.tag)) (sym same))
 
 pub returns-clause-state : goal.returns-clause-state
 returns-clause-state c =

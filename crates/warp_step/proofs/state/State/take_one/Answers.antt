@@ -19,7 +19,7 @@ take_first-requires-clause-targets c =
     first_passes (λ (w : Waiting). target_fits (program_places P) w.target) c.args.self.now.pending (fit_targets P c.args.self.now.pending c.requires.state.entries)
 
 pub take_first-requires-clause-places : goal.take_first-requires-clause-places
-take_first-requires-clause-places c = ap places_of c.requires.absent ∙ absent_places c.args.program.now
+take_first-requires-clause-places c = ap places_of c.requires.absent ∙ absent_places c.args.program.now c.args.tag
 
 pub returns-clause-state : goal.returns-clause-state
 returns-clause-state c =
@@ -32,7 +32,7 @@ returns-clause-state c =
     let first : Waiting = state.0 in
     let fits = subst (λ (xs : List Waiting). IsTrue (list_all (λ w. target_fits (program_places P) w.target) xs)) state.1 (fit_targets P ws c.requires.state.entries) in
     let own : IsTrue (target_fits (program_places P) first.target) = (and_parts _ _ fits).0 in
-    let arrives : c.take_first.new.present ≡ with_value first.target first.value (absent P) =
+    let arrives : c.take_first.new.present ≡ with_value first.target first.value (absent P c.args.tag) =
     state.3 ∙ ap (with_value first.target first.value) c.requires.absent in
     state.2
     ∙ sym (ap (λ (p : Presence). with_repeats P t p 0 P.timers rest) arrives ∙ alone_again P t first.target first.value rest own)
@@ -43,7 +43,7 @@ returns-clause-present c =
     let state = c.take_first.ensures.state in
     let first : Waiting = state.0 in
     state.3 ∙ ap (with_value first.target first.value) c.requires.absent
-    ∙ sym (ap (λ (xs : List Waiting). arrived_entries (take 1 xs) (absent P)) state.1)
+    ∙ sym (ap (λ (xs : List Waiting). arrived_entries (take 1 xs) (absent P c.args.tag)) state.1)
 
 pub returns-clause-due : goal.returns-clause-due
-returns-clause-due c = c.take_first.ensures.due (absent_due c.args.program.now c.args.present.now _ c.requires.absent)
+returns-clause-due c = c.take_first.ensures.due (absent_due c.args.program.now c.args.tag c.args.present.now _ c.requires.absent)

@@ -1,5 +1,5 @@
 -- the name comes in at its place and is counted beyond it
-use Rattle.std.proofs.Common.{List, Contains, fold, map, ap, sym, subst, ◌∙◌}
+use Rattle.std.proofs.Common.{List, fold, map, ap, sym, subst, ◌∙◌}
 use Rattle.warp_tag.specs.Moment.{Moment}
 use Rattle.warp_table.specs.inner.Heard.{Heard, with_tag}
 use Rattle.warp_table.specs.inner.Tally.{AreKept, announcement_of, beyond, counted, with_name, with_tally}
@@ -27,11 +27,10 @@ invariant_of-self-2 c =
     let old : List Tally = was.announced in
     let tallies : List Tally = counted Event c.args.tag old in
     let verdict : Verdict = fold with_tally was.verdict (map (with_name Event) (beyond c.args.tag old)) in
-    let new : Contains was.events c.args.tag → ⊥ = subst (λ (h : Heard). Contains h.events c.args.tag → ⊥) (sym c.self.view_is) c.requires in
     subst (λ (ns : List Moment). AreKept ns was.withdrawn was.doubled c.count_name.new.self c.count_name.new.verdict) (sym c.in_ok-insert.ensures.ok)
     (subst (λ (ts : List Tally). AreKept (with_tag c.args.tag was.events) was.withdrawn was.doubled ts c.count_name.new.verdict) (sym c.count_name.ensures.tallies)
     (subst (λ (v : Verdict). AreKept (with_tag c.args.tag was.events) was.withdrawn was.doubled tallies v) (sym c.count_name.ensures.judged)
-    (kept_event c.args.tag was.events was.withdrawn was.doubled old was.verdict c.self.invariant new)))
+    (kept_event c.args.tag was.events was.withdrawn was.doubled old was.verdict c.self.invariant)))
 
 pub returns-clause-ok : goal.returns-clause-ok
 returns-clause-ok c =

@@ -1,5 +1,5 @@
 -- behind all announcements a name is counted in none
-use Rattle.std.proofs.Common.{List, Contains, fold, map, ap, sym, subst, inl, inr, ◌∙◌}
+use Rattle.std.proofs.Common.{List, fold, map, ap, sym, subst, inl, inr, ◌∙◌}
 use Rattle.std.proofs.lemmas.Bool.{cases_Bool}
 use Rattle.warp_tag.specs.Moment.{Moment}
 use Rattle.warp_table.specs.inner.Heard.{Heard, with_tag}
@@ -19,14 +19,13 @@ invariant_of-self c =
     let was = c.self.inside in
     let tag = c.args.tag in
     let old : List Tally = was.announced in
-    let new : Contains was.events tag → ⊥ = subst (λ (h : Heard). Contains h.events tag → ⊥) (sym c.self.view_is) c.requires in
     let none = c.are_behind.ensures c.if-not-are_behind.false in
     elim (cases_Bool c.insert_last.result) [
       | inl h ↦ subst (λ (ns : List Moment). AreKept ns was.withdrawn was.doubled old was.verdict) (sym (c.insert_last.ensures.came h))
           (subst (λ (ts : List Tally). AreKept (with_tag tag was.events) was.withdrawn was.doubled ts was.verdict) (counted_none Event tag old none)
           (subst (λ (v : Verdict). AreKept (with_tag tag was.events) was.withdrawn was.doubled (counted Event tag old) v)
           (ap (λ (ts : List Tally). fold with_tally was.verdict (map (with_name Event) ts)) (beyond_none tag old none))
-          (kept_event tag was.events was.withdrawn was.doubled old was.verdict c.self.invariant new)))
+          (kept_event tag was.events was.withdrawn was.doubled old was.verdict c.self.invariant)))
       | inr h ↦ subst (λ (ns : List Moment). AreKept ns was.withdrawn was.doubled old was.verdict) (sym (c.insert_last.ensures.other h)) c.self.invariant
     ]
 

@@ -1,20 +1,20 @@
--- one origin more reaches less far, or as far at least
-use Rattle.std.proofs.Common.{◌+◌, sym, subst, ◌∙◌}
+-- the later one of its two parts
+use Rattle.std.proofs.Common.{List, sym, subst}
 use Rattle.warp_tag.specs.Moment.{Moment}
-use Rattle.warp_table.specs.Records.{Records, set_of}
-use Rattle.warp_table.proofs.LeastReach.{IsLeastReach, lesser_reach, same_reach}
+use Rattle.warp_record.specs.declared.record.Record.{Record}
+use Rattle.warp_table.specs.Announced.{IsHorizon}
+use Rattle.warp_table.specs.Horizons.{ReachesJointly}
+use Rattle.warp_table.specs.Records.{set_of}
+use Rattle.warp_table.proofs.JointHorizons.{horizon_of_both}
+use Rattle.warp_table.proofs.JointReach.{reaches_jointly}
 use Rattle.warp_table.proofs.table.Table.horizon.Goals as goal
-use Rattle.warp_table.proofs.table.Table.horizon.Goals.{then-is_before, else-is_before}
 
-pub loop-origin-preserved : goal.loop-origin-preserved
-loop-origin-preserved c =
-    let S : Records = set_of c.args.self.now in
-    let count = c.loop-origin.origin in
-    let end = c.loop-origin.end in
-    let own = c.reached-own.result in
-    elim c.if-is_before.branch [
-      | then-is_before w ↦ subst (λ (e : Moment). IsLeastReach S (count + 1) e) (sym w.end-is)
-          (lesser_reach S count end own c.loop-origin.invariant c.reached-own.ensures (sym c.is_before.ensures ∙ w.if-is_before.true))
-      | else-is_before w ↦ subst (λ (e : Moment). IsLeastReach S (count + 1) e) (sym w.end-is)
-          (same_reach S count end own c.loop-origin.invariant c.reached-own.ensures (sym c.is_before.ensures ∙ w.if-is_before.false))
-    ]
+pub returns : goal.returns
+returns c =
+    let is = c.self.inside in
+    let joint : ReachesJointly (set_of c.args.self.now) c.reached.result =
+    subst (λ (records : List Record). ReachesJointly (set_of records) c.reached.result) c.self.view_is
+    (subst (λ (end : Moment). ReachesJointly (set_of is.records.items) end) (sym c.reached.ensures)
+    (reaches_jointly is.records.items is.announcers.items is.joint c.self.invariant.2 c.self.invariant.3)) in
+    subst (λ (end : Moment). IsHorizon c.args.program.now (set_of c.args.self.now) end) (sym c.later.ensures)
+    (horizon_of_both c.args.program.now (set_of c.args.self.now) c.horizon_alone.result c.reached.result c.horizon_alone.ensures joint)

@@ -1,18 +1,20 @@
--- what the announcer of the origin says
-use Rattle.std.proofs.Common.{◌≡◌, List, ap, subst, sym, ◌∙◌}
+-- the later one of what its own announcements and joint ones reach
+use Rattle.std.proofs.Common.{List, sym, subst}
+use Rattle.warp_tag.specs.Moment.{Moment}
 use Rattle.warp_record.specs.declared.record.Record.{Record}
 use Rattle.warp_table.specs.Announced.{ReachesTo}
-use Rattle.warp_table.specs.Records.{Records, set_of}
-use Rattle.warp_table.specs.inner.Heard.{Heard, IsHeard, heard_at, nothing_heard}
-use Rattle.warp_table.proofs.Heard.{reaches}
+use Rattle.warp_table.specs.Horizons.{ReachesJointly}
+use Rattle.warp_table.specs.Records.{set_of}
+use Rattle.warp_table.proofs.JointHorizons.{reaches_both}
+use Rattle.warp_table.proofs.JointReach.{reaches_jointly}
 use Rattle.warp_table.proofs.table.Table.reached.Goals as goal
 
-pub returns-in-Some : goal.returns-in-Some
-returns-in-Some c =
-    let origin = c.args.origin in
+pub returns : goal.returns
+returns c =
     let is = c.self.inside in
-    let S : Records = set_of is.records.items in
-    let here : c.in-Some.announcer.now ≡ heard_at is.announcers.items origin =
-    c.in-Some.ensures.lookup.3.1 nothing_heard ∙ ap (λ (heards : List Heard). heard_at heards origin) c.deref.ensures.value in
-    subst (λ (records : List Record). ReachesTo (set_of records) origin c.reached.result) c.self.view_is
-    (reaches S origin c.in-Some.announcer.now c.reached.result (subst (λ (h : Heard). IsHeard S origin h) (sym here) (c.self.invariant.2.each origin)) c.reached.ensures)
+    let joint : ReachesJointly (set_of c.args.self.now) c.reached.result =
+    subst (λ (records : List Record). ReachesJointly (set_of records) c.reached.result) c.self.view_is
+    (subst (λ (end : Moment). ReachesJointly (set_of is.records.items) end) (sym c.reached.ensures)
+    (reaches_jointly is.records.items is.announcers.items is.joint c.self.invariant.2 c.self.invariant.3)) in
+    subst (λ (end : Moment). ReachesTo (set_of c.args.self.now) c.args.origin end) (sym c.later.ensures)
+    (reaches_both (set_of c.args.self.now) c.args.origin c.reached_alone.result c.reached.result c.reached_alone.ensures joint)
