@@ -225,8 +225,9 @@ def files():
 
 # Of each version: the last stop, the last time of a tag, the longest delay, the last microstep, the most origins, records and rows.
 LIMITS = {1: (1_000_000, 1_000_001, 1_000_000, 15, 32, 100_000, 4_096), 2: (10_000_000, 10_000_001, 10_000_000, 255, 64, 100_000, 4_096),
-          3: (15_624_999, 15_625_000, 15_624_999, 255, 64, 10_000_000, 1_048_576)}
-FORMS = {1: "One", 2: "Two", 3: "Three"}
+          3: (15_624_999, 15_625_000, 15_624_999, 255, 64, 10_000_000, 1_048_576),
+          4: (15_624_999, 15_625_000, 15_624_999, 255, 64, 10_000_000, 1_048_576)}
+FORMS = {1: "One", 2: "Two", 3: "Three", 4: "Four"}
 
 
 def versions():
@@ -360,8 +361,8 @@ def end_replies():
 
 # No reply has one of these texts.
 NO_REPLIES = ["", "taken", "taken 0", "taken 10000001", "known 01", "refused 0", "refused 12", "var 1 -0", "var 1 2 ",
-              "outputs 1 18446744073709551616", "output 1 0 0 0", "output 1 0 256 0 1", "output 1 0 0 64 1", "none 1 2", "horizon 1 15625001 0",
-              "lost -1 0", "breach 1 2", "log 1", "log 1 var 0", "log 1 withdraw 64 0 0", "board 1048577 0", "row 1 2 64 0", "collected  1"]
+              "outputs 1 18446744073709551616", "output 1 0 0 0", "output 1 0 256 0 1", "output 1 0 0 256 1", "none 1 2", "horizon 1 15625001 0",
+              "lost -1 0", "breach 1 2", "log 1", "log 1 var 0", "log 1 withdraw 64 0 0", "board 1048577 0", "row 1 2 256 0", "collected  1"]
 
 
 def spellings():
@@ -438,7 +439,8 @@ def shown_in(version, text):
         told("counts 2", ["refused 2"], 0), told("reached 2", ["refused 2"], 0),
         *((f"take {text}", "taken") for text in TOLD), ("update", "shown 2 false"), ("update", "shown 2 false"),
         told("vars", ["vars 4 10"], 4), told("cells 0 1", ["cells 4 0 10"], 4), told("cells 0 4096", ["cells 4 0 10"], 4),
-        told("cells 1 1", ["refused 6"], 4), told("cells 4294967295 4096", ["refused 6"], 4), told("horizon", ["horizon 4 7 0"], 4), told("breaches", ["breach 4"], 4),
+        told("cells 1 1", ["refused 6"], 4), told("cells 65535 4096", ["refused 6"], 4),
+        told("horizon", ["horizon 4 7 0"], 4), told("breaches", ["breach 4"], 4),
         told("releases", ["releases 4 2 0"], 4), told("release 1", [f"release 4 {ROWS[1]}"], 4), told("release 2", ["none 4"], 4),
         told("released 0 0", released, 4, 2), told("released 1 0", released[1:], 4, 2), told("released 0 1", released[:1], 4, 1),
         told("released 2 0", [], 4, 2), told("released 7 0", [], 4, 7), told("released 2 1", [], 4, 2),
