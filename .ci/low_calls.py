@@ -33,7 +33,7 @@ def loading():
     fingerprint = hashlib.sha256(canonical(json.loads(text)).encode()).hexdigest()
     told, copied = "2 origins, 2 reactions", ["copied, the same true"]
     account = ["reactors 2, reactions 2, origins 2, variables 1, stop 100", "var 0 g.k", "input 0 f.a origin 0",
-               "input 1 g.b origin 1", "output 0 g.z", f"fingerprint {fingerprint}",
+               "input 1 g.b origin 1", "output 0 g.z", "work 18, of a reaction at most 10, reaction 0 of g", f"fingerprint {fingerprint}",
                '{"form":1,"origins":2,"stop":100,"vars":["g.k"],"inputs":[[0,"f.a"],[1,"g.b"]],"outputs":["g.z"]}']
     load = Step([told, *copied, *copied], calls=3, otherwise=[
         [REFUSED], *([told, *both] for both in two_times(copied, [NO_MEMORY]))])
