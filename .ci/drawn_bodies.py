@@ -117,7 +117,7 @@ class Drawer:
         dice = self.dice
         fitting = [name for name, type in names.items() if type == wanted and name not in COLORS]
         if fitting and dice.random() < 0.8:
-            lets = [name for name in fitting if name.startswith("l")]
+            lets = [name for name in fitting if name[0] in "lw"]
             name = dice.choice(lets if lets and dice.random() < 0.5 else fitting)
             return name, lambda now: now[name]
         if wanted == FIXED and dice.random() < 0.6:
@@ -218,25 +218,31 @@ class Drawer:
             return self.loop(names, depth, assigns, returns)
         if kind < 0.55:
             return self.leave(names, returns)
+        own = [name for name in names if name[0] == "w"]
+        if own and self.dice.random() < 0.5:
+            return self.assign(names, assigns, own)
         return self.assign(names) if assigns else self.let(names, assigns)
 
     def let(self, names, assigns):
-        type, name = self.dice.choice([INT, FIXED]), f"l{next(self.numbers)}"
+        """A name of a value, or a variable of the body."""
+        word = self.dice.choice(["let", "let", "var"])
+        type, name = self.dice.choice([INT, FIXED]), f"{'w' if word == 'var' else 'l'}{next(self.numbers)}"
         changes = assigns and self.dice.random() < 0.2
         text, value = self.call(names, type, 1, changes=True) if changes else self.expression(names, type)
         names[name] = type
-        return f"let {name} = {text};", lambda now: now.update({name: value(now)})
+        return f"{word} {name} = {text};", lambda now: now.update({name: value(now)})
 
-    def assign(self, names):
+    def assign(self, names, calls=True, own=()):
+        """Assigns a variable of the reactor, or of the body one of its `own`; `calls` says that a call may change others."""
         dice = self.dice
-        if self.is_later and "h" in names and dice.random() < 0.5:
+        if self.is_later and "h" in names and not own and dice.random() < 0.5:
             return self.assign_cell(names)
-        name, sign = dice.choice([*VARIABLES]), dice.choice(["", "", "+", "-"])
-        if dice.random() < 0.2:
-            text, value = self.call(names, VARIABLES[name], 1, changes=True)
+        name, sign = dice.choice([*(own or VARIABLES)]), dice.choice(["", "", "+", "-"])
+        if calls and dice.random() < 0.2:
+            text, value = self.call(names, names[name], 1, changes=True)
             return f"{name} = {text};", lambda now: now.update({name: value(now)})
-        text, value = self.expression(names, VARIABLES[name])
-        if dice.random() < 0.1 and VARIABLES[name] == INT:
+        text, value = self.expression(names, names[name])
+        if dice.random() < 0.1 and names[name] == INT:
             return f"{name}++;", lambda now: now.update({name: wrapped(now[name] + 1)})
         change = SIGNS[sign] if sign else lambda _, new: new
         return f"{name} {sign}= {text};", lambda now: now.update({name: change(now[name], value(now))})

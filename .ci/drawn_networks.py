@@ -2,7 +2,8 @@
 
 The simulator goes over the instances as they stand in each other: what is put on a port goes along connections to the
 ports behind it, at the same tag or after a delay, and each reaction runs behind those whose ports it reads and those
-before it in its reactor. A mode that is left loses what it had begun. Nothing is executed behind microstep 0 of the
+before it in its reactor. A mode that is left loses what it had begun; where `history` leads back to it, its timers go on with
+the time that was left. Nothing is executed behind microstep 0 of the
 stop, or behind the tag after a `request_stop`."""
 
 import heapq
@@ -34,7 +35,8 @@ class Place:
 @dataclass
 class Reaction:
     """`on`, `reads` and `writes` name ports by places, and actions, timers, `startup` and `shutdown` by names. Of a
-    mode's reaction `mode` is its number, and `leads` the word and the number of a mode to which it may lead."""
+    mode's reaction `mode` is its number, and `leads` the word and the number of a mode to which it may lead. One that
+    `echoes` reads what is on the ports on which it puts, before it does so and behind that."""
 
     on: list
     reads: list
@@ -44,6 +46,7 @@ class Reaction:
     asks: bool = False
     mode: int | None = None
     leads: tuple | None = None
+    echoes: bool = False
 
 
 @dataclass
@@ -90,13 +93,13 @@ def leaf(dice, name):
     return kind
 
 
-def modal(dice, name):
+def modal(dice, name, longest=3):
     """A reactor with modes, the first of which is the initial one."""
     kind = Kind(name, inputs={"a": None}, outputs={"y": None})
     for number in range(dice.randint(2, 3)):
-        is_plain = dice.random() < 0.4
-        timers = {f"t{number}": (dice.choice([0, 0, 1, 2]), dice.choice([0, 1, 2, 3]))} if not is_plain else {}
-        actions = {f"c{number}": dice.choice([0, 1, 2, 3])} if not is_plain and dice.random() < 0.7 else {}
+        is_plain = dice.random() < 0.2
+        timers = {f"t{number}": (dice.choice([0, 0, 1, 2]), dice.randint(0, longest))} if not is_plain else {}
+        actions = {f"c{number}": dice.choice([0, 1, 2, 3])} if not is_plain and dice.random() < 0.5 else {}
         kind.modes.append(Mode(timers, actions, dice.choice([None, 5])))
     for number, mode in enumerate(kind.modes):
         for _ in range(dice.randint(1, 2)):
@@ -104,8 +107,9 @@ def modal(dice, name):
             on = list(dict.fromkeys(dice.sample(triggers, dice.randint(1, 3))))
             actions = [it for it in mode.actions if dice.random() < 0.6]
             it = Reaction(on, [], [Place(None, "y")], actions, [dice.randint(1, 9) for _ in range(4)], mode=number)
+            it.echoes = dice.random() < 0.2
             target = dice.randrange(len(kind.modes))
-            is_history = not kind.modes[target].timers and not kind.modes[target].actions and dice.random() < 0.5
+            is_history = not kind.modes[target].actions and dice.random() < 0.7
             it.leads = ("history" if is_history else "reset", target) if dice.random() < 0.7 else None
             kind.reactions.append(it)
     return kind
@@ -128,7 +132,7 @@ def reaction(dice, kind, inputs, outputs, asks=0.0):
     actions = [it for it in kind.actions if dice.random() < 0.5]
     numbers = [dice.randint(1, 9) for _ in range(4)]
     unique = [it for place, it in enumerate(on) if it not in on[:place]]
-    return Reaction(unique, reads, writes, actions, numbers, dice.random() < asks)
+    return Reaction(unique, reads, writes, actions, numbers, dice.random() < asks, echoes=dice.random() < 0.2)
 
 
 def container(dice, name, kinds, is_main=False):
@@ -173,6 +177,12 @@ def network(dice):
     for number in range(dice.randint(0, 2)):
         kinds.append(container(dice, f"Box{number}", kinds))
     return [*kinds, container(dice, "Main", kinds, True)]
+
+
+def modal_network(dice):
+    """A network of one reactor with modes, to which an origin sends."""
+    main = Kind("Main", instances={"i0": (modal(dice, "Modal0", 6), None)}, given=[Place("i0", "a")], shown=[Place("i0", "y")])
+    return [main.instances["i0"][0], main]
 
 
 # The text.
@@ -221,13 +231,15 @@ def reaction_text(kind, it):
         terms += [f"present({name}) * {two}"] if isinstance(name, str) and name != "reset" else []
         terms += [f"{name}"] if name in kind.every_action else []
         terms += [f"{name.port}[n % 3]"] if indexed(kind, name) else []
-    body = [f"n = (n * {one} + {' + '.join(terms[:8])}) % {MODULUS};"]
+    echo = [f"n = (n + (present({each}) ? {each} : {four})) % {MODULUS};" for place in it.writes for each in channels(kind, place)]
+    body = [*echo * it.echoes, f"n = (n * {one} + {' + '.join(terms[:8])}) % {MODULUS};"]
     body += [f"n = (n + {term}) % {MODULUS};" for term in terms[8:]]
     for place in it.writes:
         for number, each in enumerate(channels(kind, place)):
             body.append(f"if ((n + {number}) % {1 + two} != 0) {each} = n + {number};")
         if indexed(kind, place):
             body.append(f"{place.port}[n % 4] = n * 2;")
+    body += echo * it.echoes
     body += [f"if (n % {2 + three} < 2) schedule({action}, {four % 3}, n);" for action in it.actions]
     body += ["if (n % 5 == 0) request_stop();"] * it.asks
     if it.mode is not None and kind.modes[it.mode].start is not None:
@@ -258,6 +270,8 @@ def channels(kind, place):
 class Node:
     def __init__(self, kind, path=()):
         self.kind, self.path, self.n = kind, path, 1
+        # How long the timers of modes that were left would still have taken; None of those that would not come again.
+        self.rest = {}
         self.mode, self.next, self.counts = 0, None, [mode.start for mode in kind.modes]
         # The tag at which its mode began anew, and that at which each was entered first.
         self.begun, self.first = None, {0: (0, 0)}
@@ -394,17 +408,21 @@ class Simulator:
             return
         (word, number), before, node.next = node.next, self.tag, None
         left, mode = node.kind.modes[node.mode], node.kind.modes[number]
-        for tag, target in [*self.entries]:
-            if target[0] == id(node) and target[1] in (*left.timers, *left.actions):
-                del self.entries[tag, target]
+        begun = [(tag, target) for tag, target in self.entries if target[0] == id(node) and target[1] in (*left.timers, *left.actions)]
+        for name in left.timers:
+            node.rest[name] = min((tag[0] - before[0] for tag, target in begun if target[1] == name), default=None)
+        for tag, target in begun:
+            del self.entries[tag, target]
         node.mode, entered = number, self.landing(0)
         self.tag = entered
         self.enter(entered, (id(node), "entered", None), 1)
         node.first.setdefault(number, entered)
         if word == "reset":
             node.begun, node.counts[number] = entered, mode.start
-            for name, times in mode.timers.items():
-                self.begin(node, name, *times)
+        for name, (offset, period) in mode.timers.items():
+            rest = offset if word == "reset" else node.rest.get(name, offset)
+            if rest is not None:
+                self.begin(node, name, rest, period)
         self.tag = before
 
     def seen(self, node, name, mode=None):
@@ -429,6 +447,7 @@ class Simulator:
         if it.mode is not None and node.counts[it.mode] is not None:
             node.counts[it.mode] += 1
             node.n += node.counts[it.mode]
+        self.echo(node, it)
         one, two, three, four = it.numbers
         terms = [three]
         for name in [*it.on, *it.reads]:
@@ -446,6 +465,10 @@ class Simulator:
             node.n = (node.n + (term() if callable(term) else term)) % MODULUS
         self.effects(node, it)
 
+    def echo(self, node, it):
+        for point in [point for place in it.writes for point in node.points(place)] if it.echoes else ():
+            node.n = (node.n + self.now.get(point, it.numbers[3])) % MODULUS
+
     def effects(self, node, it):
         one, two, three, four = it.numbers
         for place in it.writes:
@@ -455,6 +478,7 @@ class Simulator:
                     self.put(point, node.n + number)
             if indexed(node.kind, place) and node.n % 4 < len(points):
                 self.put(points[node.n % 4], node.n * 2)
+        self.echo(node, it)
         for action in it.actions:
             if node.n % (2 + three) < 2:
                 self.enter(self.landing(node.kind.every_action[action] + four % 3), (id(node), action, None), node.n)
@@ -468,7 +492,7 @@ class Simulator:
 def events_of(dice, simulator):
     """Events of a network's inputs, one of each name: time, microstep, input and value."""
     given = sum(len(simulator.root.points(place)) for place in simulator.root.kind.given)
-    tags = {(dice.randrange(STOP), dice.choice([0, 0, 1])) for _ in range(6 if given else 0)}
+    tags = {(dice.randrange(STOP), dice.choice([0, 0, 1])) for _ in range(dice.choice([6, 12]) if given else 0)}
     return [[*tag, dice.randrange(given), dice.randint(-3, 9)] for tag in sorted(tags)]
 
 

@@ -80,10 +80,10 @@ requestAnimationFrame(function frame(now) {
 })"""
 
 
-def points_of(ann, ben, ticks):
-    """The points of Pong where each player goes as a rule says, which looks at the tick alone: worked out from the rules of the
-    game, not by warpd."""
-    rows, (x, y, dx, dy), points = [3, 3], (12, 3, 1, 1), []
+def moments_of(ann, ben, ticks):
+    """Pong where each player goes as a rule says, which looks at the tick alone: worked out from the rules of the game, not by warpd. Behind
+    each tick both rows, where the ball is, and who has a point, if somebody does."""
+    rows, (x, y, dx, dy) = [3, 3], (12, 3, 1, 1)
     for tick in range(1, ticks + 1):
         rows = [min(ROWS, max(0, row + rule(tick))) for row, rule in zip(rows, (ann, ben))]
         x, y = x + dx, y + dy
@@ -92,22 +92,24 @@ def points_of(ann, ben, ticks):
             dx = 1
         if x == 23 and abs(y - rows[1]) < 2:
             dx = -1
-        if x in (0, 24):
-            points.append(("Ben" if x == 0 else "Ann", tick))
-            x = 12
-    return points
+        point = {0: "Ben", 24: "Ann"}.get(x)
+        x = 12 if point else x
+        yield tick, rows, (x, y), point
 
 
-class Pong:
-    """The game's starter, and the addresses that it prints."""
+class Started:
+    """A game of examples/web that was started, and the addresses that it prints."""
 
-    def __init__(self, program, engine, *words):
-        command = [ROOT / "examples" / "web" / "pong" / "start", program, "--engine", engine, *words]
+    def __init__(self, name, program, engine, *words):
+        command = [ROOT / "examples" / "web" / name / "start", program, "--engine", engine, *words]
         self.process = subprocess.Popen(list(map(str, command)), stdin=subprocess.PIPE, stdout=subprocess.PIPE, text=True)
 
     def __enter__(self):
-        lines = [self.process.stdout.readline() for _ in range(3)]
-        self.ann, self.ben, self.host = (line.split()[-1] for line in lines)
+        self.addresses = []
+        while not self.addresses or "The host is shown" not in line:
+            line = self.process.stdout.readline()
+            holds(line, "the starter ended")
+            self.addresses.append(line.split()[-1])
         return self
 
     def __exit__(self, *_):
@@ -116,6 +118,16 @@ class Pong:
             same(self.process.wait(30), 0, "the starter's status")
         finally:
             self.process.kill()
+
+
+class Pong(Started):
+    def __init__(self, *words):
+        super().__init__("pong", *words)
+
+    def __enter__(self):
+        super().__enter__()
+        self.ann, self.ben, self.host = self.addresses
+        return self
 
     def delay(self, milliseconds):
         """Sets what the slider of the pages does."""
@@ -146,7 +158,8 @@ class Pong:
 def known_score(browser, program, engine):
     """Two rules play to a known score over a host that hears of each tab late: both tabs go back, and end with the same points."""
     ticks = 160
-    points = points_of(lambda tick: 1 if tick % 10 < 5 else -1, lambda tick: -1 if tick % 10 < 5 else 1, ticks)
+    moments = {it[0]: it[1:] for it in moments_of(lambda tick: 1 if tick % 10 < 5 else -1, lambda tick: -1 if tick % 10 < 5 else 1, ticks)}
+    points = [(point, tick) for tick, (_, _, point) in moments.items() if point]
     holds(len({name for name, _ in points}) == 2, "the rules do not try both sides")
     with Pong(program, engine, "--delay", 300, "--tick", 30, "--ticks", ticks) as game, browser.tab() as tabs:
         for tab, address in zip(tabs, (f"{game.ann}&rule=sweep", f"{game.ben}&rule=shuttle")):
@@ -162,9 +175,24 @@ def known_score(browser, program, engine):
             said = browser.run("return [...document.querySelectorAll('#points li')].map(it => it.textContent)")
             same(said, [f"{name} at {tick}, final" for name, tick in points], "the points")
             holds(int(browser.text("back").split()[0]) > 5, f"it went back {browser.text('back')}")
+            for tick in (1, ticks // 3, ticks - 1, 17):
+                back_in_time(browser, tick, *moments[tick][:2])
             # The first page was there before the game began.
             holds(tab != tabs[0] or browser.run("return window.wasOpen"), "no point was told that may change")
             browser.is_quiet()
+
+
+def back_in_time(browser, tick, rows, ball):
+    """By the slider the page shows what was so behind a tick; at its end it is now again."""
+    slide = "const it = document.querySelector('.warpd-scrubber input'); it.value = arguments[0] ?? it.max; it.dispatchEvent(new Event('input'))"
+    label = "return document.getElementById('field').getAttribute('aria-label')"
+    now = browser.run(label)
+    browser.run(slide, tick)
+    then = f"The ball at {ball[0]}, {ball[1]}; Ann at row {rows[0]}, Ben at row {rows[1]}"
+    browser.wait(f"{label} === {then!r}", f"behind tick {tick}: {then}")
+    same(browser.run("return document.querySelector('.warpd-scrubber output').textContent"), f"at {tick}", "what the slider says")
+    browser.run(slide)
+    browser.wait(f"{label} === {now!r}", "the page shows what is so now")
 
 
 def hold(browser, key, kind="keydown"):

@@ -12,6 +12,9 @@ export class NoMemory extends Error {
   readonly isCut: boolean
 }
 
+/** WebAssembly may not run here, so no engine does. The message says what is missing. */
+export class NoWebAssembly extends Error {}
+
 export interface Output extends Tag {
   index: number
   output: number
@@ -40,7 +43,7 @@ export interface Tab {
 /** Replicas that share one memory. */
 export class Engine {
   private constructor()
-  /** An engine of these bytes, or of a module that was compiled from them. */
+  /** An engine of these bytes, or of a module that was compiled from them. Rejected with `NoWebAssembly` where that may not run. */
   static load(source: BufferSource | WebAssembly.Module): Promise<Engine>
   /** Another engine of the same module, in which nothing is open. */
   another(): Engine

@@ -39,6 +39,24 @@ export class NoMemory extends Error {
   }
 }
 
+/** WebAssembly may not run here, so no engine does. The message says what is missing. */
+export class NoWebAssembly extends Error {
+  constructor() {
+    const missing = globalThis.WebAssembly ? "the page's content policy has no 'wasm-unsafe-eval' in script-src" : "this browser has none, or it is turned off"
+    super(`WebAssembly may not run here: ${missing}`)
+    this.name = "NoWebAssembly"
+  }
+}
+
+/** Whether any module may be compiled: one that has nothing. */
+function mayCompile() {
+  try {
+    return Boolean(new WebAssembly.Module(Uint8Array.of(0, 97, 115, 109, 1, 0, 0, 0)))
+  } catch {
+    return false
+  }
+}
+
 /** The memory of an engine, its calls, and room in it for what is handed over. */
 class Memory {
   #room = { at: 0, length: 0 }
@@ -105,10 +123,14 @@ export class Engine {
     memoryOf = engine => engine.#memory
   }
 
-  /** An engine of these bytes, or of a module that was compiled from them. */
+  /** An engine of these bytes, or of a module that was compiled from them. It throws `NoWebAssembly` where that may not run. */
   static async load(source) {
-    const module = source instanceof WebAssembly.Module ? source : await WebAssembly.compile(source)
-    return new Engine(module, await WebAssembly.instantiate(module, {}))
+    try {
+      const module = source instanceof WebAssembly.Module ? source : await WebAssembly.compile(source)
+      return new Engine(module, await WebAssembly.instantiate(module, {}))
+    } catch (error) {
+      throw mayCompile() ? error : new NoWebAssembly()
+    }
   }
 
   constructor(module, instance) {

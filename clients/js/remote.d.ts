@@ -55,11 +55,13 @@ export class RemoteReplica {
   frame(now?: number): number
   ping(): Promise<number>
   readonly tick: { time: number; ahead: number } | null
+  readonly newest: Tag
   readonly vars: Record<string, Value>
   outputs(first?: number): Promise<FinalOutput[]>
   readonly confirmed: Record<string, Value>
   readonly horizon: Tag
   readonly records: number
+  array(name: string, time?: number | null): Promise<BigInt64Array>
   at(time: number): Promise<Record<string, Value>>
   /** Follows the host no more, and closes the connection. The worker stays: end it by `terminate()`. */
   close(): Promise<void>

@@ -9,12 +9,12 @@
 // What is told at once there is told here as the worker told it last, which is after each change and each frame; what a call gives
 // there comes here as a promise.
 
-import { NoMemory, ProgramRefused } from "./engine.js"
+import { NoMemory, NoWebAssembly, ProgramRefused } from "./engine.js"
 import { OtherProgram } from "./replica.js"
 import { Smooth } from "./smooth.js"
 import { Ended, Refused } from "./warpd.js"
 
-const KINDS = { Ended, NoMemory, OtherProgram, ProgramRefused, RangeError, Refused, TypeError }
+const KINDS = { Ended, NoMemory, NoWebAssembly, OtherProgram, ProgramRefused, RangeError, Refused, TypeError }
 
 /** An error of the worker, of its kind. */
 function errorOf({ name, message, ...fields }) {
@@ -33,7 +33,7 @@ export class RemoteReplica {
   /** The last tick that a call of `frame` told, and when that was: its picture shows what is corrected then. */
   #told = 0
   #framed = performance.now()
-  #state = { values: [], truth: [], tick: null, horizon: { time: 0, micro: 0 }, records: 0 }
+  #state = { values: [], truth: [], tick: null, newest: { time: 0, micro: 0 }, horizon: { time: 0, micro: 0 }, records: 0 }
   #isReady
   #isNotReady
 
@@ -160,6 +160,10 @@ export class RemoteReplica {
     return this.#state.tick
   }
 
+  get newest() {
+    return this.#state.newest
+  }
+
   get vars() {
     return this.#named(this.#state.values)
   }
@@ -178,6 +182,10 @@ export class RemoteReplica {
 
   outputs(first) {
     return this.#call("outputs", first)
+  }
+
+  array(name, time) {
+    return this.#call("array", name, time)
   }
 
   at(time) {

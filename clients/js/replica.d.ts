@@ -114,10 +114,12 @@ export class Replica {
   ping(): Promise<number>
   /** The last tick of the clock that is shown, and how far it is past the last that came. */
   readonly tick: { time: number; ahead: number } | null
+  /** The last tag that is shown; time 0 where nothing is executed yet. */
+  readonly newest: Tag
   /** The variables by name, as they are shown. */
   readonly vars: Record<string, Value>
-  /** The cells of an array by its name, as they are shown. */
-  array(name: string): BigInt64Array
+  /** The cells of an array by its name, as they are shown; or as they were behind all that has this time, as `at(time)` tells the variables. */
+  array(name: string, time?: number | null): BigInt64Array
   /** The outputs of what is shown, from this number on: what is not final may change. */
   outputs(first?: number): FinalOutput[]
   /** The variables by name over the host's log alone. */

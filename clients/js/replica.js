@@ -19,15 +19,21 @@
 
 import { NoMemory } from "./engine.js"
 import { Executed, placeOf, tagOf } from "./executed.js"
+import { Past } from "./past.js"
 import { Smooth } from "./smooth.js"
 import { Announcer, Ended, Refused, replyOf } from "./warpd.js"
 
-// The quickest of so many late ticks tells when the host's clock began.
+// The quickest of so many late ticks tells when the host's clock began. What is reckoned with goes over to that by so much of the time
+// that passes; at once where it is farther away than so many milliseconds, as behind a machine's sleep.
 const SAMPLES = 300
+const GOING_OVER = 0.1
+const FAR = 1_000
 // The log that the host has at the beginning is looked for so often, in milliseconds.
 const LOOK_EVERY = 5
 // Lines are handed to the engine so many bytes at a time, or a line more.
 const PIECE = 60_000
+// What is not needed before the horizon is let go of each so many records.
+const COLLECT_EVERY = 1_000
 
 const lineOf = ({ kind, origin, time, micro, input, value, events, withdrawn }) => {
   const behind = { event: ` ${input} ${value}`, withdraw: "", announce: ` ${events} ${withdrawn}` }[kind]
@@ -72,8 +78,10 @@ class Clock {
     /** The last tick that was executed here, and the last that came. */
     this.ticked = 0
     this.confirmed = 0
-    /** When the host's tick 0 was, by the quickest of late ticks, in this process's time. */
+    /** When the host's tick 0 was, in this process's time: by the quickest of late ticks, and as is reckoned with, since when. */
+    this.quickest = Infinity
     this.offset = Infinity
+    this.reckoned = -Infinity
     /** The ticks that were executed and have not come, in rising order. */
     this.expected = []
   }
@@ -87,7 +95,9 @@ class Clock {
     if (kind !== "event" || origin !== this.#origin || input !== this.#input) return Infinity
     this.#samples.push(this.now() - (time * 1_000) / this.hertz)
     if (this.#samples.length > SAMPLES) this.#samples.shift()
-    this.offset = Math.min(...this.#samples)
+    this.quickest = Math.min(...this.#samples)
+    // Before the first picture nothing is reckoned with.
+    if (this.reckoned === -Infinity) this.offset = this.quickest
     this.confirmed = Math.max(this.confirmed, time)
     this.ticked = Math.max(this.ticked, time)
     const [first = Infinity] = this.expected
@@ -99,9 +109,16 @@ class Clock {
 
   /** How many ticks are due that were not executed, at most `ahead` past the last that came. */
   due(now) {
-    if (!Number.isFinite(this.offset)) return 0
+    if (!Number.isFinite(this.quickest)) return 0
+    this.#goOver(now)
     const due = Math.floor(((now - this.offset) * this.hertz) / 1_000) + this.lead
     return Math.max(0, Math.min(due, this.confirmed + this.ahead, this.last) - this.ticked)
+  }
+
+  #goOver(now) {
+    const [by, most] = [this.quickest - this.offset, GOING_OVER * Math.max(0, now - this.reckoned)]
+    this.offset = Math.abs(by) > FAR ? this.quickest : this.offset + Math.min(most, Math.max(-most, by))
+    this.reckoned = now
   }
 
   /** When a tick is due. */
@@ -131,8 +148,10 @@ export class Replica {
   #truth
   #shown
   #names
-  /** The host's log, as lines; what came of it and was not taken yet. */
-  #log = []
+  /** How many records of the host's log were taken, and the last one's line; how many before what is final was let go of; what came and was not taken yet. */
+  #count = 0
+  #last = ""
+  #collected = 0
   #arrived = []
   #watch = null
   #announcer = null
@@ -147,6 +166,8 @@ export class Replica {
   #isReady = false
   #isClosed = false
   #finals = 0
+  /** The variables as they are shown, as the engine tells them and by name; and as they were at a time. */
+  #cells = null
   #values = null
   #past = null
   /** The numbers that glide, the tick that they were told last, and the time of the last picture, which shows what is corrected. */
@@ -221,7 +242,7 @@ export class Replica {
   /** Waits until so many records came; where none comes for as long as the client waits for an answer, it is an `Ended`. */
   async #came(log) {
     for (let before = 0, waited = 0; ; waited += LOOK_EVERY) {
-      const count = this.#log.length + this.#arrived.length
+      const count = this.#count + this.#arrived.length
       if (count >= log) return
       if (this.error ?? this.client.error) throw this.error ?? this.client.error
       if (count !== before || this.client.state !== "open") waited = 0
@@ -242,11 +263,12 @@ export class Replica {
   /** Over another connection the watch goes on where it was; but a host that began anew has another log. */
   async #reopened() {
     this.#take()
-    const place = this.#log.length
+    const [place, last] = [this.#count, this.#last]
     if (!place) return
     const entry = await this.client.log(place)
-    if (entry && lineOf(entry.record) === this.#log[place - 1]) return
-    this.#log = []
+    if (entry && lineOf(entry.record) === last) return
+    this.#count = this.#collected = 0
+    this.#past = null
     this.#arrived = []
     this.#executed = new Executed()
     this.#setClock()
@@ -292,17 +314,26 @@ export class Replica {
     let passed = Infinity
     records.forEach((record, at) => {
       if (this.#clock) passed = Math.min(passed, this.#clock.heard(record))
-      this.#log.push(lines[at])
       if (record.origin !== this.origin || record.kind !== "event") return
       this.#used.add(placeOf(record))
       this.#own.delete(lines[at])
     })
     this.stats.records += lines.length
     this.#give(this.#truth, lines)
+    this.#count += lines.length
+    this.#last = lines.at(-1)
     const late = firstTaken(records, this.#give(this.#shown, lines))
     this.#executed.add(records.filter(isExecuted).map(placeOf))
+    this.#collect()
     if (passed < Infinity) this.#rebuild(Math.min(late, placeOf({ time: passed, micro: 0 })), newest)
     else this.#tellRollback(late, newest)
+  }
+
+  /** Lets go of what is not needed before the horizon, which changes no answer. */
+  #collect() {
+    if (this.#count < this.#collected + COLLECT_EVERY) return
+    this.#collected = this.#count
+    for (const tab of [this.#truth, this.#shown]) this.#give(tab, ["collect"])
   }
 
   /** The replies to lines. */
@@ -362,6 +393,7 @@ export class Replica {
   }
 
   #changed(isOwn = false) {
+    this.#cells = null
     this.#values = null
     if (this.#smooth) this.#glide(isOwn)
     this.onchange?.()
@@ -463,6 +495,12 @@ export class Replica {
     return this.#clock && { time: this.#clock.ticked, ahead: this.#clock.ticked - this.#clock.confirmed }
   }
 
+  /** The last tag that is shown; time 0 where nothing is executed yet. */
+  get newest() {
+    this.#take()
+    return tagOf(Math.max(0, this.#newest))
+  }
+
   /** The variables by name, as they are shown: BigInt. */
   get vars() {
     this.#take()
@@ -470,8 +508,13 @@ export class Replica {
   }
 
   get #shownVars() {
-    this.#values ??= this.#named(this.#shown.vars())
+    this.#values ??= this.#named(this.#shownCells)
     return this.#values
+  }
+
+  get #shownCells() {
+    this.#cells ??= this.#shown.vars()
+    return this.#cells
   }
 
   /** The outputs of what is shown, from this number on, each `{ index, time, micro, output, value }`: what is not final may change. */
@@ -486,11 +529,11 @@ export class Replica {
     })
   }
 
-  /** The cells of an array by its name, as they are shown. */
-  array(name) {
+  /** The cells of an array by its name, as they are shown; or as they were behind all that has this time, as `at(time)` tells the variables. */
+  array(name, time = null) {
     this.#take()
     const { first, count } = this.#names.array(name)
-    return this.#shown.vars().slice(first, first + count)
+    return (time === null ? this.#shownCells : this.#cellsAt(time)).slice(first, first + count)
   }
 
   /** The variables by name over the host's log alone. */
@@ -508,7 +551,7 @@ export class Replica {
   /** How many records of the host's log it has. */
   get records() {
     this.#take()
-    return this.#log.length
+    return this.#count
   }
 
   #named(values) {
@@ -524,14 +567,12 @@ export class Replica {
    */
   at(time) {
     this.#take()
-    if (this.#past?.time === time && this.#past.records === this.#log.length) return this.#past.vars
-    const program = JSON.parse(this.#program)
-    // A program that stops there has executed all up to there and nothing behind; it refuses what is later.
-    const tab = this.#engine.open(JSON.stringify({ ...program, stop: Math.min(time, program.stop) }))
-    this.#give(tab, this.#log)
-    this.#past = { time, records: this.#log.length, vars: this.#named(tab.vars()) }
-    tab.drop()
-    return this.#past.vars
+    return this.#named(this.#cellsAt(time))
+  }
+
+  #cellsAt(time) {
+    this.#past ??= new Past(this.#engine, this.#program)
+    return this.#past.at(time, this.#truth, this.#count)
   }
 
   /** Follows the host no more: what it tells stays as it is. The client stays open. */

@@ -21,7 +21,8 @@ export interface WithdrawRecord extends Tag {
 
 export interface AnnounceRecord extends Tag {
   kind: "announce"
-  origin: number
+  /** Null where it is of all origins together. */
+  origin: number | null
   events: number
   withdrawn: number
 }
@@ -180,7 +181,8 @@ export class Client {
   many(lines: Iterable<string>): Promise<unknown[]>
   event(input: string | number, event: { time: number; value: GivenValue; micro?: number; origin?: number }): Promise<Taken>
   withdraw(origin: number, tag: { time: number; micro?: number }): Promise<Taken>
-  announce(origin: number, word: { time: number; micro?: number; events: number; withdrawn?: number }): Promise<Taken>
+  /** With "*" for all origins together, in a program of version 4. */
+  announce(origin: number | "*", word: { time: number; micro?: number; events: number; withdrawn?: number }): Promise<Taken>
   var(name: string | number): Promise<{ log: number; value: Value }>
   readVars(): Promise<{ log: number; values: Record<string, Value> }>
   outputs(): Promise<Counted>

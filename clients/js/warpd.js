@@ -189,6 +189,8 @@ function whole(name, value, most, least = 0) {
   return value
 }
 
+const NO_RANGE = "which cells to watch is missing: say it as { array: \"r.board\" }, or as { from: 0, count: 9 }"
+
 const tagIn = ({ time, micro = 0 } = {}) => `${whole("time", time, 15_625_000)} ${whole("micro", micro, 255)}`
 const valueIn = ({ value }) => whole("value", value, 2n ** 63n - 1n, -(2n ** 63n))
 
@@ -738,11 +740,15 @@ export class Client {
     return this.ask(`withdraw ${whole("origin", origin, 63)} ${tagIn(tag)}`)
   }
 
-  /** Before this tag the origin has so many names with an event, and with a withdrawal. An `Announcer` counts them. */
+  /**
+   * Before this tag the origin has so many names with an event, and with a withdrawal; with "*" all origins together have,
+   * in a program of version 4. An `Announcer` counts those of one origin.
+   */
   async announce(origin, word) {
     const tag = tagIn(word)
     const { events, withdrawn = 0 } = word
-    return this.ask(`announce ${whole("origin", origin, 63)} ${tag} ${whole("events", events, 1e9)} ${whole("withdrawn", withdrawn, 1e9)}`)
+    const who = origin === "*" ? origin : whole("origin", origin, 63)
+    return this.ask(`announce ${who} ${tag} ${whole("events", events, 1e9)} ${whole("withdrawn", withdrawn, 1e9)}`)
   }
 
   /** A variable, by name or number. */
@@ -791,8 +797,9 @@ export class Client {
   }
 
   /** So many variables, 1 to 4,096, from a number on: cells of arrays and hidden ones too. */
-  cells(first, count) {
-    return this.ask(`cells ${first} ${count}`)
+  async cells(first, count) {
+    if (first === undefined || count === undefined) throw new TypeError("which cells is missing: say it as cells(0, 9)")
+    return this.ask(`cells ${whole("first", first, MOST_VALUES)} ${whole("count", count, MOST_CELLS, 1)}`)
   }
 
   /** The cells of the array of this name, asked for in pieces: Float64Array where each value is a whole number that it keeps, else BigInt64Array. */
@@ -842,6 +849,7 @@ export class Client {
   watch(what, callback = null, { from = { log: 1, released: 0 }[what] ?? null, count = null, array = null } = {}) {
     number("subject of a watch", what, SUBJECTS)
     if (array !== null) ({ first: from, count } = this.names.array(array))
+    if (what === "cells" && (from === null || count === null)) throw new TypeError(NO_RANGE)
     if (what === "cells") from = whole("from", from, MOST_VALUES), count = whole("count", count, MOST_CELLS, 1)
     else if (count !== null || (from !== null && what !== "log" && what !== "released")) throw new RangeError(`a watch of ${what} has no start`)
     this.#watches.get(what)?.end()

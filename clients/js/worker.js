@@ -87,9 +87,9 @@ class Served {
   }
 
   #tell(isFrame = false) {
-    const { vars, confirmed, tick, horizon, records, stats } = this.#replica
+    const { vars, confirmed, tick, newest, horizon, records, stats } = this.#replica
     const [values, truth] = [vars, confirmed].map(it => BigInt64Array.from(Object.values(it)))
-    const state = { values, truth, tick, horizon, records, stats, notes: this.#notes?.take() ?? [] }
+    const state = { values, truth, tick, newest, horizon, records, stats, notes: this.#notes?.take() ?? [] }
     say({ state, isFrame }, [values.buffer, truth.buffer])
   }
 

@@ -1,9 +1,12 @@
-// Boards: the cells of an array with two sides, a square for each, in a colour by its value.
+// Boards: the cells of an array with two sides, a square for each, in a colour by its value. tools/trace_svg has the same colours.
 
-// Of more values than these a shade says how great each is.
-const MOST_COLOURS = 12
+/** The colours of 1 to 9; 0 is the ground. */
+const COLOURS = ["#0072b2", "#d55e00", "#009e73", "#cc79a7", "#e69f00", "#56b4e9", "#7c4dcc", "#b3a100", "#8c5a2b"]
+// Where there is another value, each has one of so many shades, by how great it is.
+const SHADES = 16
+// Of so many values it is told in words how often each is there.
+const MOST_TOLD = 12
 const LARGEST = 18
-const COLOURS = ["accent", "good", "late", "ink"]
 
 /** How often each value is there, the least first. */
 export function countsOf(values) {
@@ -15,17 +18,29 @@ export function countsOf(values) {
 /** What a board shows, in words. */
 export function boardText({ name, sides: [rows, columns] }, values) {
   const counts = countsOf(values)
-  const all = [...counts].slice(0, MOST_COLOURS).map(([value, count]) => `${count} of ${value}`)
-  return `${name}, ${rows} rows of ${columns}: ${all.join(", ")}${counts.size > MOST_COLOURS ? " and others" : ""}`
+  const all = [...counts].slice(0, MOST_TOLD).map(([value, count]) => `${count} of ${value}`)
+  return `${name}, ${rows} rows of ${columns}: ${all.join(", ")}${counts.size > MOST_TOLD ? " and others" : ""}`
 }
 
-/** Draws onto a canvas in the colours of the page. */
+/** The colour of each value, and what the colours mean: each value's, or of shades that of the least and of the greatest. */
+export function coloursOf(values, ground) {
+  const kinds = [...countsOf(values).keys()]
+  const [least, most] = [kinds[0], kinds.at(-1)]
+  const shadeOf = value => Math.round(((SHADES - 1) * (Number(value) - Number(least))) / (Number(most) - Number(least) || 1))
+  const isPlain = least >= 0 && most <= COLOURS.length
+  const colourOf = value => isPlain ? COLOURS[Number(value) - 1] ?? ground : `hsl(210 60% ${12 + (76 * shadeOf(value)) / (SHADES - 1)}%)`
+  return { colourOf, meanings: (isPlain ? kinds : [...new Set([least, most])]).map((it, at) => [isPlain || !at ? `${it}` : `to ${it}`, colourOf(it)]) }
+}
+
+/** Draws onto a canvas, and tells beside it what the colours mean. */
 export class Board {
   #canvas
+  #legend
   #pen
 
-  constructor(canvas) {
+  constructor(canvas, legend) {
     this.#canvas = canvas
+    this.#legend = legend
     this.#pen = canvas.getContext("2d")
   }
 
@@ -35,25 +50,17 @@ export class Board {
     Object.assign(this.#canvas, { width: Math.round(columns * size * ratio), height: Math.round(rows * size * ratio) })
     Object.assign(this.#canvas.style, { width: `${columns * size}px`, height: `${rows * size}px` })
     this.#pen.setTransform(ratio, 0, 0, ratio, 0, 0)
-    const colours = this.#colours(values)
+    const { colourOf, meanings } = coloursOf(values, getComputedStyle(document.documentElement).getPropertyValue("--rule"))
     const gap = size > 5 ? 1 : 0
     values.forEach((value, at) => {
-      this.#pen.fillStyle = colours(value)
+      this.#pen.fillStyle = colourOf(value)
       this.#pen.fillRect((at % columns) * size, Math.floor(at / columns) * size, size - gap, size - gap)
     })
-  }
-
-  /** The colour of each value: 0 is the ground, others stand apart, or are shades where there are many. */
-  #colours(values) {
-    const style = getComputedStyle(document.documentElement)
-    const named = name => style.getPropertyValue(`--${name}`)
-    const kinds = [...countsOf(values).keys()].map(Number)
-    const [least, most] = [kinds[0], kinds.at(-1)]
-    if (kinds.length > MOST_COLOURS) return value => `hsl(210 60% ${12 + (76 * (Number(value) - least)) / (most - least)}%)`
-    const places = new Map(kinds.filter(it => it !== 0).map((it, at) => [it, at]))
-    return value => {
-      const at = places.get(Number(value))
-      return named(at === undefined ? "rule" : COLOURS[at]) || `hsl(${at * 47} 55% 50%)`
-    }
+    this.#legend.replaceChildren(...meanings.map(([text, colour]) => {
+      const [part, square] = [document.createElement("span"), document.createElement("i")]
+      square.style.background = colour
+      part.append(square, text)
+      return part
+    }))
   }
 }

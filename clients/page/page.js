@@ -13,7 +13,7 @@ const at = id => document.getElementById(id)
 const put = (id, text) => at(id).textContent !== text && (at(id).textContent = text)
 const replica = new Replica()
 const timeline = new Timeline(at("timeline"))
-const board = new Board(at("cells"))
+const board = new Board(at("cells"), at("colours"))
 // A watch of cells has no more.
 const MOST_WATCHED = 4096
 const EVERYBODY = "*"

@@ -1,4 +1,4 @@
-// Tries what the client has of arrays over a real host.
+// Tries what the client has of programs of version 4 over a real host: arrays, and announcements of all origins together.
 
 import assert from "node:assert/strict"
 import { test } from "node:test"
@@ -47,9 +47,39 @@ test("arrays by their names, and what changes of them", { timeout: SECONDS }, as
     assert.equal((await far.started).count, 1)
     assert.deepEqual((await far[Symbol.asyncIterator]().next()).value, { log: 2, first: 9, values: BigInt64Array.of((2n ** 31n - 1n) ** 2n) })
     await far.stop()
-    assert.throws(() => client.watch("cells"), TypeError)
+    for (const range of [{}, { from: 0 }, { count: 3 }])
+      assert.throws(() => client.watch("cells", null, range), error => error instanceof TypeError && /^which cells to watch is missing/.test(error.message))
+    // @ts-expect-error
+    await assert.rejects(client.cells(), error => error instanceof TypeError && /^which cells is missing/.test(error.message))
+    await assert.rejects(client.cells(0, 4097), RangeError)
     assert.throws(() => client.watch("cells", null, { from: 0, count: 0 }), RangeError)
     assert.throws(() => client.watch("vars", null, { count: 3 }), RangeError)
+  } finally {
+    client.close()
+    await host.stop()
+  }
+})
+
+test("an announcement of all origins together", { timeout: SECONDS }, async () => {
+  const host = new Host(await freePort(), [], fileOf("together.json", JSON.stringify({ ...PROGRAM, origins: 2 })))
+  await host.start()
+  const client = new Client(host.url, { WebSocket })
+  try {
+    await client.event("r.set", { time: 3, value: 1 })
+    const word = { time: 6, micro: 2, events: 1 }
+    assert.deepEqual(await client.announce("*", word), { place: 2, isNew: true })
+    assert.deepEqual(await client.announce("*", word), { place: 2, isNew: false })
+    const record = { kind: "announce", origin: null, time: 6, micro: 2, events: 1, withdrawn: 0 }
+    assert.deepEqual(await client.log(2), { log: 2, record })
+    // It stands for each origin, also for the one that sent nothing.
+    assert.deepEqual(await client.horizon(), { log: 2, time: 6, micro: 2 })
+    assert.equal((await client.breach("*")).broken, false)
+    await client.event("r.set", { time: 5, value: 2 })
+    assert.equal((await client.breach("*")).broken, true)
+    for (const origin of ["all", -1, 64, 0.5])
+      // @ts-expect-error
+      await assert.rejects(client.announce(origin, word), RangeError)
+    await assert.rejects(client.announce("*", { time: 6, events: -1 }), RangeError)
   } finally {
     client.close()
     await host.stop()

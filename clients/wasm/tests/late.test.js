@@ -196,6 +196,8 @@ test("players over late connections, one of which breaks", { timeout: 4 * SECOND
     await played(players, ticker)
     await areAnswered(players)
     assert.equal(ann.client.connections, 2)
+    // No record came twice: the log went on where it was.
+    assert.equal(ann.stats.records, ann.records)
     // The clock goes on to the last tick that a player was shown.
     while (ticker.time < Math.max(ann.tick.time, ben.tick.time) || ticker.time % 8) ticker.tick()
     await Promise.all([ann, ben].map(it => it.announce({ time: ticker.time + 1 })))

@@ -28,10 +28,10 @@ async function until(holds) {
   throw new Error(`it never came to ${holds}`)
 }
 
-/** A test over a host of pong: it is given `remoteOf(options)` and `client()`. */
-function hosted(name, body) {
+/** A test over a host of pong, or of another program: it is given `remoteOf(options)` and `client()`. */
+function hosted(name, body, text = PONG) {
   test(name, { timeout: 3 * SECONDS }, async () => {
-    const host = new Host(await freePort(), [], fileOf("pong.json", PONG))
+    const host = new Host(await freePort(), [], fileOf("hosted.json", text))
     await host.start()
     const [clients, workers] = [[], []]
     const client = () => {
@@ -40,7 +40,7 @@ function hosted(name, body) {
     }
     const remoteOf = options => {
       workers.push(new Worker(new URL("../../js/worker.js", import.meta.url)))
-      return new RemoteReplica(workers.at(-1), { url: host.url, engine: MODULE, program: PONG, webSocketFrom: WS, ...options })
+      return new RemoteReplica(workers.at(-1), { url: host.url, engine: MODULE, program: text, webSocketFrom: WS, ...options })
     }
     try {
       await body({ host, client, remoteOf })
@@ -72,6 +72,7 @@ hosted("a replica in a worker tells what one in this process does", async ({ rem
   assert.equal((await act.answered).isNew, true)
   await until(() => remote.records === 92 && near.records === 92)
   assert.deepEqual([remote.vars, remote.confirmed, await remote.outputs(), await remote.at(30)], [near.vars, near.confirmed, near.outputs(), near.at(30)])
+  assert.deepEqual([remote.newest, near.newest], [{ time: 90, micro: 0 }, { time: 90, micro: 0 }])
   assert.deepEqual(went, [[90, 2, 89]])
   await Promise.all([ticker, new Announcer(clock, 2)].map(it => it.announce({ time: 91 })))
   await remote.announce({ time: 91 })
@@ -129,6 +130,18 @@ hosted("what cannot be is rejected here, each as what it is there", async ({ rem
   await assert.rejects(act.answered, TypeError)
   await assert.rejects(watcher.at({}), Error)
 })
+
+hosted("a board comes from there as it is shown, and as it was", async ({ remoteOf, client }) => {
+  const [remote, clock] = [await remoteOf({ origin: 1 }).ready, client()]
+  await clock.ready
+  await remote.act("tank[0].join", 1, { time: 1 }).answered
+  await Promise.all([1, 2, 3].map(time => clock.event("main.tick", { time, value: 1 })))
+  await until(() => remote.records === 4)
+  // The tank stands at 3 3: a cell is 8 times the tick at which it was painted, and who did.
+  const painted = async time => (await remote.array("field.board", time))[3 * 40 + 3]
+  assert.deepEqual([await painted(), await painted(2), await painted(0)], [25n, 17n, 0n])
+  await assert.rejects(remote.array("field.boards"), RangeError)
+}, program("tanks"))
 
 test("a worker that does not run is told", async () => {
   const worker = new Worker(new URL("./nowhere.js", import.meta.url))

@@ -22,10 +22,10 @@ async function until(holds) {
   throw new Error(`it never came to ${holds}`)
 }
 
-/** A test over a host of pong: it is given `replicaOf(options)`, `client()` and the host. */
-function hosted(name, body, words = []) {
+/** A test over a host of pong, or of another program: it is given `replicaOf(options)`, `client()` and the host. */
+function hosted(name, body, { words = [], text = PONG } = {}) {
   test(name, { timeout: 3 * SECONDS }, async () => {
-    const host = new Host(await freePort(), words, fileOf("pong.json", PONG))
+    const host = new Host(await freePort(), words, fileOf("hosted.json", text))
     await host.start()
     const engine = await Engine.load(MODULE)
     const clients = []
@@ -34,7 +34,7 @@ function hosted(name, body, words = []) {
       return clients.at(-1)
     }
     const replicaOf = async options => {
-      const replica = new Replica(client(), { engine, program: PONG, ...options })
+      const replica = new Replica(client(), { engine, program: text, ...options })
       await replica.ready
       return replica
     }
@@ -150,6 +150,7 @@ hosted("one's own event shows at once, and the host has it then", async ({ repli
   const before = replica.records
   const act = replica.act("ann.steer", 1, { time: 7 })
   assert.deepEqual([replica.vars["ann.goes"], replica.confirmed["ann.goes"], before], [1n, 0n, 0])
+  assert.deepEqual(replica.newest, { time: 7, micro: 0 })
   assert.equal((await act.answered).isNew, true)
   await until(() => replica.records === 1)
   assert.equal(replica.confirmed["ann.goes"], 1n)
@@ -235,6 +236,43 @@ hosted("ticks that are due are executed before they come, and one that is passed
   await until(() => replica.records === 5)
   assert.equal(replica.stats.rebuilt, 1)
   assert.deepEqual(replica.vars, await hostVars(clock, 5))
+})
+
+/** How many ticks each of so many pictures brings, one every 10 milliseconds, where each tick is heard so much after it was due. */
+async function picturesOf({ replicaOf, client }, pictures, lateAt) {
+  let now = 0
+  const [replica, clock] = [await replicaOf({ now: () => now, clock: { input: "clock.tick", hertz: 100, ahead: 100 } }), client()]
+  await clock.ready
+  const brought = []
+  for (let tick = 1; tick <= pictures; tick += 1) {
+    await clock.event("clock.tick", { time: tick, value: 1 })
+    now = 10 * tick + lateAt(tick)
+    await until(() => replica.records === tick)
+    now = 10 * tick + 400
+    brought.push(replica.frame(now))
+  }
+  assert.equal(replica.stats.rebuilt, 0)
+  return { brought, replica }
+}
+
+hosted("a link that gets slower holds no picture up, and the clock goes over to it", async given => {
+  const { brought, replica } = await picturesOf(given, 500, tick => (tick < 50 ? 0 : 60))
+  // From tick 350 on all of the last 300 came 60 milliseconds later: that is gone over to within 600, with a tick a picture but for six.
+  assert.equal(brought[0], 40)
+  assert.ok(brought.slice(1).every(it => it === 0 || it === 1))
+  assert.ok(brought.every((it, at) => it || brought[at + 1] !== 0), `two pictures bring nothing: ${brought}`)
+  assert.deepEqual([brought.filter(it => !it).length, replica.tick.ahead], [6, 34])
+})
+
+hosted("a tick that comes quicker than all before makes no picture jump", async given => {
+  const { brought, replica } = await picturesOf(given, 120, tick => (tick < 20 ? 200 : 100))
+  assert.ok(brought.slice(1).every(it => it === 1 || it === 2), `${brought}`)
+  assert.deepEqual([brought.filter(it => it === 2).length, replica.tick.ahead], [10, 30])
+})
+
+hosted("what is known to be wrong by more than a second is right at once", async given => {
+  const { brought } = await picturesOf(given, 3, tick => (tick < 3 ? 1_200 : -9))
+  assert.deepEqual(brought, [0, 0, 40])
 })
 
 hosted("a clock that ends has no tick behind its last one", async ({ replicaOf, client }) => {
@@ -344,6 +382,51 @@ hosted("what was so at a time is told of the host's log", async ({ replicaOf, cl
   assert.deepEqual(replica.at(30), replica.confirmed)
   assert.equal(replica.at(0)["ball.x"], 12n)
 })
+
+hosted("what is let go of behind the horizon changes nothing that is told, and what comes late is taken in", async ({ replicaOf, client }) => {
+  const asked = []
+  const watching = (engine, asks) => ({ ...engine, another: () => watched(engine.another(), asks), fingerprint: it => engine.fingerprint(it) })
+  const watched = (made, asks) => Object.assign(made, { open: text => {
+    const tab = Engine.prototype.open.call(made, text)
+    const answer = tab.answer.bind(tab)
+    return Object.assign(tab, { answer: lines => (asks.push(...lines.match(/^collect$/gm) ?? []), answer(lines)) })
+  } })
+  const [replica, clock] = [await replicaOf({ origin: 1, engine: watching(await Engine.load(MODULE), asked) }), client()]
+  const [ticker, ben] = [new Announcer(clock, 0), new Announcer(clock, 2)]
+  const final = []
+  replica.onfinal = row => final.push([row.index, row.time, row.value])
+  const early = []
+  for (let tick = 0; tick < 1_600; tick += 100) {
+    await Promise.all(Array.from({ length: 100 }, (_, at) => ticker.event("clock.tick", { time: tick + at + 1, value: 1 })))
+    await Promise.all([ticker, ben].map(it => it.announce({ time: tick + 61 })))
+    await replica.announce({ time: tick + 61 })
+    if (tick === 0) early.push(await until(() => replica.records === 103).then(() => replica.at(30)))
+  }
+  await replica.act("ann.steer", 1, { time: 1_580 }).answered
+  await until(() => replica.records === 1_600 + 48 + 1)
+  const [host, { count }] = [await hostVars(clock, 1_649), await clock.released()]
+  const rows = await Promise.all(Array.from({ length: count }, (_, at) => clock.output(at)))
+  assert.ok(asked.length > 0)
+  assert.deepEqual([replica.vars, replica.confirmed, replica.at(30), replica.horizon.time], [host, host, early[0], 1_561])
+  assert.deepEqual(final, rows.map((row, at) => [at, row.time, row.value]))
+})
+
+hosted("a board is told as it is shown, and as it was", async ({ replicaOf, client }) => {
+  const [replica, clock] = [await replicaOf({ origin: 1, clock: { input: "main.tick", hertz: 10 } }), client()]
+  await clock.ready
+  await replica.act("tank[0].join", 1, { time: 1 }).answered
+  await replica.act("tank[0].steer", 1, { time: 3 }).answered
+  await Promise.all([1, 2, 3, 4, 5].map(time => clock.event("main.tick", { time, value: 1 })))
+  await until(() => replica.records === 7)
+  const painted = values => Array.from(values, Number).flatMap((it, place) => (it ? [[place % 40, Math.floor(place / 40), it >> 3, it & 7]] : []))
+  assert.deepEqual(painted(replica.array("field.board")), [[3, 3, 2, 1], [4, 3, 3, 1], [5, 3, 4, 1], [6, 3, 5, 1]])
+  assert.deepEqual(painted(replica.array("field.board", 3)), [[3, 3, 2, 1], [4, 3, 3, 1]])
+  assert.deepEqual([replica.at(3)["tank[0].x"], replica.array("field.painted", 3)[1], replica.array("field.painted")[1]], [4n, 2n, 4n])
+  // What the host has not answered is shown on the board, too.
+  replica.act("tank[0].steer", 2, { time: 4 })
+  assert.deepEqual(painted(replica.array("field.board")), [[3, 3, 2, 1], [4, 3, 3, 1], [4, 4, 4, 1], [4, 5, 5, 1]])
+  assert.throws(() => replica.array("field.boards"), /no array is called "field.boards"/)
+}, { text: program("tanks") })
 
 hosted("a connection that is lost is made again, and the log goes on", async ({ host, replicaOf, client }) => {
   const replica = await replicaOf({ origin: 1 })

@@ -7,3 +7,4 @@ mod Stepping
 mod Entered
 mod Cuts
 mod At
+mod OwnSteps

@@ -4,7 +4,7 @@ use Rattle.std.specs.Prelude.{IsTrue, if◌then◌else◌}
 use Rattle.std.proofs.lemmas.Bool.{cases_Bool}
 use Rattle.std.proofs.lemmas.List.{map-append}
 use Rattle.warp_record.specs.Lines.{Piece, Whole, Long, Torn}
-use Rattle.warp_record.specs.Reply.{reply_line}
+use Rattle.warp_room.specs.Gate.{outcome_line}
 use Rattle.warp_record.specs.declared.line.Line.{Line}
 use Rattle.warp_record.specs.declared.line.Line.TheVariants as line
 use Rattle.warp_record.specs.declared.reply.Refusal.TheVariants as refusal
@@ -302,8 +302,8 @@ one_replied one t waits c c' replies told =
       all = λ over. refl;
       rights = told.rights ∙ sym (rights_more t.first t.told (Reply one));
       allowed = told.allowed;
-      text = sym (append_assoc (text_of t.passed.told) c.out (reply_line one.answer.reply))
-          ∙ ap (λ (b : List ℕ). b ++ reply_line one.answer.reply) told.text ∙ sym (texts_more t.told (Reply one));
+      text = sym (append_assoc (text_of t.passed.told) c.out (outcome_line one.answer.outcome))
+          ∙ ap (λ (b : List ℕ). b ++ outcome_line one.answer.outcome) told.text ∙ sym (texts_more t.told (Reply one));
       said = told.said;
       passes = told.passes;
     })

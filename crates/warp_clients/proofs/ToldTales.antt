@@ -15,7 +15,7 @@ use Rattle.warp_room.specs.Steps as room
 use Rattle.warp_room.specs.declared.answers.AnsweredLine.{AnsweredLine}
 use Rattle.warp_room.proofs.Clients.{client_differs, client_is, client_itself, differs_client, same_client}
 use Rattle.warp_room.proofs.Older.{came_none, older_kept}
-use Rattle.warp_room.proofs.OpenLines.{answered, came, handed, heard, left, others_handed, others_heard, others_left}
+use Rattle.warp_room.proofs.OpenLines.{answered, came, handed, heard, left, others_handed, others_heard, others_left, own_said}
 use Rattle.warp_watch.specs.declared.client_id.ClientId.{ClientId}
 use Rattle.warp_web.specs.Lines.{nothing_passed}
 use Rattle.warp_web.specs.Wire.{Passes}
@@ -406,6 +406,10 @@ module _ {T : Type 0} (facts : TimelineFacts T) where
       told_still tales s s' (ap (λ (c : CrowdState). c.clients) does.2) (λ v. answered facts s.room s'.room one v does.1)
       (let same : s'.room.queues.came ≡ s.room.queues.came = ap (λ (q : QueuesState). q.came) does.1.takes in omega (arith, same))
       (older_kept facts (room.Answered one ∷ []) s.room s'.room (s'.room, does.1, refl) told.older) told
+  told_works (room.Said one answer) tales s s' does told =
+      told_still tales s s' (ap (λ (c : CrowdState). c.clients) does.2) (λ v. own_said facts s.room s'.room one answer v does.1)
+      (let same : s'.room.queues.came ≡ s.room.queues.came = ap (λ (r : RoomState T). r.queues.came) does.1.leaves in omega (arith, same))
+      (older_kept facts (room.Said one answer ∷ []) s.room s'.room (s'.room, does.1, refl) told.older) told
 
   told_rest : (tales : Tales) (s s' : ClientsState T) → s'.room ≡ s.room → s'.crowd.clients ≡ s.crowd.clients → AreTold tales s → AreTold tales s'
   told_rest tales s s' room_same same told =

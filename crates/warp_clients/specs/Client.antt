@@ -1,11 +1,11 @@
 -- A client: its connection, its rights, what it said that is neither in the room nor answered; and what is done for it.
 use Rattle.std.specs.Prelude.{◌≡◌, ◌⊎◌, ◌≤◌, ◌+◌, ◌-◌, ◌<◌, ℕ, Bool, true, false, IsTrue, List, [], ◌∷◌, ◌++◌, Option, Some, None, nat_le, take}
 use Rattle.warp_record.specs.Lines.{Piece}
-use Rattle.warp_record.specs.Reply.{reply_line}
 use Rattle.warp_record.specs.declared.line.Line.{Line}
 use Rattle.warp_hub.specs.Tokens.{most_wrong}
 use Rattle.warp_hub.specs.declared.commons.Facts.{Facts}
 use Rattle.warp_hub.specs.declared.rights.Rights.{Rights}
+use Rattle.warp_room.specs.Gate.{outcome_line}
 use Rattle.warp_room.specs.declared.answers.AnsweredLine.{AnsweredLine}
 use Rattle.warp_watch.specs.declared.client_id.ClientId.{ClientId}
 use Rattle.warp_web.specs.Lines.{Passed, nothing_passed}
@@ -84,7 +84,7 @@ GoesIn said c c' = HasLine said c × (c' ≡ record c { slot = None; owed = c.ow
 
 -- the room's answer to its first line there is told to it
 abbrev pub Replies : AnsweredLine → ClientState → ClientState → Type 0
-Replies one c c' = (c.over ≡ false) × (c' ≡ record c { owed = c.owed - 1; out = c.out ++ reply_line one.answer.reply })
+Replies one c c' = (c.over ≡ false) × (c' ≡ record c { owed = c.owed - 1; out = c.out ++ outcome_line one.answer.outcome })
 
 -- it is not: the client is told nothing more
 abbrev pub Misses : ClientState → ClientState → Type 0

@@ -2,7 +2,6 @@
 -- connection.
 use Rattle.std.specs.Prelude.{◌≡◌, ℕ, ◌<◌, ◌≤◌, Bool, true, false, IsTrue, List, [], ◌∷◌, ◌++◌, Option, Some, None, length, map, slice_get, if◌then◌else◌}
 use Rattle.warp_record.specs.Lines.{Piece}
-use Rattle.warp_record.specs.Reply.{reply_line}
 use Rattle.warp_record.specs.declared.line.Line.{Line}
 use Rattle.warp_replica.specs.Answered.{TimelineFacts}
 use Rattle.warp_hub.specs.Rights.{may_send}
@@ -11,6 +10,7 @@ use Rattle.warp_hub.specs.declared.rights.Rights.{Rights}
 use Rattle.warp_room.specs.Room.{RoomState, is_client, open_lines}
 use Rattle.warp_room.specs.Steps.{AreOlder, RoomStep}
 use Rattle.warp_room.specs.Steps as room
+use Rattle.warp_room.specs.Gate.{outcome_line}
 use Rattle.warp_room.specs.declared.answers.AnsweredLine.{AnsweredLine}
 use Rattle.warp_watch.specs.declared.client_id.ClientId.{ClientId}
 use Rattle.warp_web.specs.Lines.{Passed, nothing_passed, text_of}
@@ -99,7 +99,7 @@ answered_in (Push len text ∷ entries) = answered_in entries
 
 -- the text of an entry, with its line feeds
 abbrev pub text_in : Entry → List ℕ
-text_in (Reply one) = reply_line one.answer.reply
+text_in (Reply one) = outcome_line one.answer.outcome
 text_in (Own said len text) = text
 text_in (Given rights text) = text
 text_in (Push len text) = text

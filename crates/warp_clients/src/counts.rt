@@ -4,13 +4,22 @@ use crate::client::Listened;
 use crate::refusals::{Refusals, number_in};
 use crate::saying::Saying;
 use warp_record::{Refusal, Reply};
-use warp_replica::Answer;
+use warp_room::{LineAnswer, Outcome};
 
 /// The number of the refusal of what may not be sent, and of a token that is none.
 const NOT_ALLOWED: usize = 13;
 
 /// The number of the refusal of records while the journal can't be written.
 const NOT_DURABLE: usize = 14;
+
+/// The number of the refusal of an announcement for a kept origin.
+const KEPT: usize = 15;
+
+/// The number of the refusal of a record of a kept origin's name that is closed.
+const LATE: usize = 16;
+
+/// The number of the refusal of another payload of a kept origin's name.
+const DIFFERS: usize = 17;
 
 /// What was counted since the clients were made.
 #[derive(Clone, Copy, Debug)]
@@ -71,14 +80,17 @@ impl Counts {
     }
 
     /// The room's answer was told, or not.
-    pub(crate) fn replied(&mut self, is_told: bool, answer: &Answer) {
+    pub(crate) fn replied(&mut self, is_told: bool, answer: &LineAnswer) {
         self.see(answer.len);
         if !is_told {
             return;
         }
-        match answer.reply {
-            Reply::Refused(refusal) => self.refused_by(refusal),
-            _ => self.spoke(),
+        match answer.outcome {
+            Outcome::Replied(Reply::Refused(refusal)) => self.refused_by(refusal),
+            Outcome::Replied(_) => self.spoke(),
+            Outcome::Kept => self.refused(KEPT),
+            Outcome::Late => self.refused(LATE),
+            Outcome::Differs => self.refused(DIFFERS),
         }
     }
 

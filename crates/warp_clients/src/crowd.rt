@@ -11,7 +11,7 @@ use crate::client::{Client, Listened};
 use crate::counts::{Counts, NO_COUNTS};
 use crate::places::Places;
 use crate::saying::{Saying, first_rights};
-use crate::texts::{NOT_ALLOWED, spell_own, spell_reply, spell_rights};
+use crate::texts::{NOT_ALLOWED, spell_outcome, spell_own, spell_reply, spell_rights};
 use crate::watching::{Watched, is_watch};
 use std::alloc::{AllocError, Global};
 use std::collections::VecDeque;
@@ -241,7 +241,7 @@ impl Crowd {
             ⊎ (IsAway one.now.who self.old.clients × (self.new.clients ≡ self.old.clients)) }
         ensures common { self.new.common ≡ self.old.common }
     {
-        if !spell_reply(&mut self.text, &one.answer.reply) {
+        if !spell_outcome(&mut self.text, &one.answer.outcome) {
             self.places.miss(one.who);
             return false;
         }

@@ -2,8 +2,8 @@
 ghost use Rattle.std.specs.Prelude.{◌≡◌, ◌≢◌, [], ◌∷◌, List, length};
 ghost use Rattle.warp_replica.specs.Answered.{facts_of};
 ghost use Rattle.warp_replica.specs.History.{IsHistory};
-ghost use Rattle.warp_room.specs.Room.{history_of};
-ghost use Rattle.warp_room.specs.Steps.{RoomRuns, served_in};
+ghost use Rattle.warp_room.specs.Room.{history};
+ghost use Rattle.warp_room.specs.Steps.{RoomRuns, logged_in};
 ghost use Rattle.warp_clients.specs.Steps.{ClientsState, Runs, Step};
 ghost use Rattle.warp_clients.specs.Tale.{AreAllowed, AreTold, IsEmpty, room_steps, tale_of};
 ghost use Rattle.warp_clients.specs.Crowd.{IsAway};
@@ -15,8 +15,8 @@ use warp_line::Timeline;
 /// Clients of which none had come, after any steps: each line that a client said was answered once, in order, to it and to
 /// nobody else, up to its lines in the room and what waits in its slot, while it is not over; the bytes for it are the
 /// texts of these answers and of what was pushed, whole; and a line goes to the room with the rights of the last token that its client said
-/// and was told of, or else with those with which it came, whatever the tokens are by then. The lines that were answered, with their answers,
-/// are a linear history of the program and the log.
+/// and was told of, or else with those with which it came, whatever the tokens are by then. The lines that were left to the log, with their
+/// answers, and what the host said itself are a linear history of the program and the log.
 pub fn what_is_told<T: Timeline>()
     ensures told { (steps : List Step) (s s' : ClientsState T) → IsEmpty s →
         Runs (facts_of T.settled T.refused T.floor T.SLACK) steps s s' →
@@ -30,5 +30,5 @@ pub fn what_is_told<T: Timeline>()
     ensures history { (steps : List Step) (s s' : ClientsState T) →
         Runs (facts_of T.settled T.refused T.floor T.SLACK) steps s s' →
         IsHistory s'.room.replica.program s'.room.replica.records (length s.room.replica.records)
-        (history_of (served_in (room_steps steps)) ∷ []) }
+        (history (logged_in (room_steps steps)) ∷ []) }
 {}

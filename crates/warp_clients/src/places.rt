@@ -2,7 +2,7 @@
 ghost use Rattle.std.specs.Prelude.{◌≡◌, ◌⊎◌, ◌≤◌, ◌<◌, ◌++◌, ◌∷◌, [], ℕ, List, Some, None, false, true};
 ghost use Rattle.std.specs.Prelude.{IfErr, IfNone, IfOk, IfSome, OnErr, OnOk};
 ghost use Rattle.std.specs.Prelude.{IsTrue, length, slice_get, slice_set, take};
-ghost use Rattle.warp_record.specs.Reply.{reply_line};
+ghost use Rattle.warp_room.specs.Gate.{outcome_line};
 ghost use Rattle.warp_clients.specs.Client.{ClientState, Closes, Ends, GoesIn, HasLine, Hears, IsMe, IsNext, Listens, Loses, MayCarry};
 ghost use Rattle.warp_clients.specs.Client.{MayEnd, MayGrant, MayRefuse, MaySpeak, MayUpgrade, MayWrite, Misses, Pushes, Replies, Rests};
 ghost use Rattle.warp_clients.specs.Crowd.{Becomes, Goes, IsAway, IsOutputOf, IsThere, MayDo};
@@ -163,7 +163,7 @@ impl Places {
 
     /// The room's answer goes to who asked; whether it is told.
     pub(crate) fn reply(&mut self, one: &AnsweredLine, text: &[u8]) -> bool
-        requires { text.now ≡ reply_line one.now.answer.reply }
+        requires { text.now ≡ outcome_line one.now.answer.outcome }
         ensures yes { result ≡ true → Becomes one.now.who (Replies one.now) self.old self.new }
         ensures no { result ≡ false → Becomes one.now.who Misses self.old self.new
             ⊎ (IsAway one.now.who self.old × (self.new ≡ self.old)) }

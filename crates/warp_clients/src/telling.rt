@@ -1,6 +1,6 @@
 //! What a client is told, and what of that goes to its connection.
 ghost use Rattle.std.specs.Prelude.{◌≡◌, ◌<◌, [], None, Some, false, true, IfSome, length, slice_index};
-ghost use Rattle.warp_record.specs.Reply.{reply_line};
+ghost use Rattle.warp_room.specs.Gate.{outcome_line};
 ghost use Rattle.warp_web.specs.Wire.{IsOutput};
 ghost use Rattle.warp_clients.specs.Client.{Closes, Ends, IsNext, MayCarry, MayEnd, MayGrant, MayRefuse, MaySpeak, MayWrite, Misses};
 ghost use Rattle.warp_clients.specs.Client.{Pushes, Replies, with_text};
@@ -31,7 +31,7 @@ impl Client {
 
     /// It is told the room's answer to its first line there, which has this text.
     pub(crate) fn reply(&mut self, one: &AnsweredLine, text: &[u8]) -> bool
-        requires { text.now ≡ reply_line one.now.answer.reply }
+        requires { text.now ≡ outcome_line one.now.answer.outcome }
         ensures yes { result ≡ true → Replies one.now self.old self.new }
         ensures no { result ≡ false → Misses self.old self.new }
     {

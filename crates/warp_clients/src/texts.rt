@@ -1,6 +1,7 @@
 //! The texts that are answered here, spelled into room that is kept for them.
 ghost use Rattle.std.specs.Prelude.{◌≡◌, ◌++◌, ◌∷◌, [], IsTrue};
 ghost use Rattle.warp_record.specs.Reply.{reply_line};
+ghost use Rattle.warp_room.specs.Gate.{outcome_line};
 ghost use Rattle.warp_clients.specs.Sayings.{IsOwn, refused_13};
 
 use crate::saying::Saying;
@@ -8,12 +9,22 @@ use itoa::Buffer;
 use std::alloc::AllocError;
 use warp_hub::{Facts, MOST_ORIGINS, Rights, Word};
 use warp_record::{REPLY_ROOM, Reply, write_reply_line};
+use warp_room::Outcome;
 
 /// The answer to what may not be sent.
 pub(crate) const NOT_ALLOWED: &[u8] = b"refused 13\n";
 
 /// The answer to a record while the journal can't be written.
 const NOT_DURABLE: &[u8] = b"refused 14\n";
+
+/// The answer to an announcement for an origin that the host keeps.
+const KEPT: &[u8] = b"refused 15\n";
+
+/// The answer to a record of a kept origin's name that is closed.
+const LATE: &[u8] = b"refused 16\n";
+
+/// The answer to another payload of a kept origin's name.
+const DIFFERS: &[u8] = b"refused 17\n";
 
 /// Puts a reply's line in the place of what is there; whether there was memory.
 pub(crate) fn spell_reply(text: &mut Vec<u8>, reply: &Reply) -> bool
@@ -25,6 +36,18 @@ pub(crate) fn spell_reply(text: &mut Vec<u8>, reply: &Reply) -> bool
     }
     write_reply_line(text, reply);
     true
+}
+
+/// Puts what the room told in the place of what is there; whether there was memory.
+pub(crate) fn spell_outcome(text: &mut Vec<u8>, outcome: &Outcome) -> bool
+    ensures { IsTrue result → text.new.items ≡ outcome_line outcome.now }
+{
+    match *outcome {
+        Outcome::Replied(reply) => spell_reply(text, &reply),
+        Outcome::Kept => spell(text, KEPT),
+        Outcome::Late => spell(text, LATE),
+        Outcome::Differs => spell(text, DIFFERS),
+    }
 }
 
 /// Puts these bytes in the place of what is there; whether there was memory.

@@ -1,5 +1,6 @@
 -- Following the log of a peer: which of its lines tell a record, and what of them is handed on.
-use Rattle.std.specs.Prelude.{◌≡◌, ◌⊎◌, ℕ, ◌+◌, ◌-◌, ◌<◌, ◌≤◌, Bool, true, false, IsTrue, List, [], ◌∷◌, ◌++◌, codes, Option, Some}
+use Rattle.std.specs.Prelude.{◌≡◌, ◌⊎◌, ℕ, ◌+◌, ◌-◌, ◌<◌, ◌≤◌, Bool, true, false, IsTrue, List, [], ◌∷◌, ◌++◌, codes, nat_eq, Option, Some}
+use Rattle.std.specs.List.{starts_with}
 use Rattle.warp_tag.specs.declared.form.Form.{Form}
 use Rattle.warp_record.specs.declared.record.Record.{Record}
 use Rattle.warp_record.specs.declared.reply.Reply.TheVariants.{Log}
@@ -10,7 +11,7 @@ use Rattle.warp_record.specs.Lines.Piece.{Whole, Long, Torn}
 use Rattle.warp_hub.specs.declared.follow.PeerEvent.{PeerEvent}
 use Rattle.warp_hub.specs.declared.follow.PeerEvent.TheVariants.{NoMemory}
 use Rattle.warp_hub.specs.declared.follow.Phase.{Phase}
-use Rattle.warp_hub.specs.declared.follow.Phase.TheVariants.{Over, Pushed, Asked}
+use Rattle.warp_hub.specs.declared.follow.Phase.TheVariants.{Over, Token, Program, Check, Watch, Pushed, Asked, Level}
 
 -- what is kept of the peer's unfinished line, the form of its records, the own program's line, what is due from the peer,
 -- the place of the record that comes next, and how many of those before it were handed on and not answered yet
@@ -36,31 +37,82 @@ TellsRecord f Asked place line said =
     (log : ℕ) × IsReply f (Log log said) × (place ≤ log) × (line ≡ reply_spelling (Log log said))
 TellsRecord f other place line said = ⊥
 
--- the line tells the record that comes next, and it was handed on, as a line
-abbrev pub HandsOn : FollowState → List ℕ → List ℕ → FollowState → List ℕ → Type 0
-HandsOn s line handed s' handed' =
+-- what is due first of a peer that is followed from now on: of a host the answer to `watch log P`, of a `serve` that to `log P`
+abbrev pub due_first : Bool → Phase
+due_first true = Watch
+due_first false = Asked
+
+-- a peer is followed from now on, a host or a `serve`, behind the record that was had last, where there is one; or the
+-- connection is to be ended
+abbrev pub IsFollowed : Bool → Phase → Type 0
+IsFollowed is_host phase = (phase ≡ Over) ⊎ ((phase ≡ Check is_host) ⊎ (phase ≡ due_first is_host))
+
+-- a line begins with this
+abbrev pub begins : List ℕ → List ℕ → Type 0
+begins front line = starts_with nat_eq line front ≡ true
+
+-- what is due behind the answer to a token: of who told its program before the records of a host, where it tells rights
+abbrev pub LeadsByToken : Bool → List ℕ → Phase → Type 0
+LeadsByToken true line phase = begins (codes "may ") line × IsFollowed true phase
+LeadsByToken false line phase = (begins (codes "may ") line ⊎ (line ≡ codes "refused 1")) × (phase ≡ Program)
+
+-- What is due behind a line that hands nothing on, by what was due before and the own program's line. A host is followed only
+-- where it told the own program, and a `serve` is who knows no such word.
+abbrev pub LeadsTo : Phase → List ℕ → List ℕ → Phase → Type 0
+LeadsTo Over program line phase = phase ≡ Over
+LeadsTo (Token is_told) program line phase = (phase ≡ Over) ⊎ LeadsByToken is_told line phase
+LeadsTo Program program line phase =
+    (phase ≡ Over) ⊎ (((line ≡ program) × ((phase ≡ Token true) ⊎ IsFollowed true phase))
+    ⊎ ((line ≡ codes "refused 1") × IsFollowed false phase))
+LeadsTo (Check is_host) program line phase = (phase ≡ Over) ⊎ (phase ≡ due_first is_host)
+LeadsTo Watch program line phase = (phase ≡ Over) ⊎ (begins (codes "watching ") line × (phase ≡ Pushed))
+LeadsTo Pushed program line phase = phase ≡ Over
+LeadsTo Asked program line phase = (phase ≡ Over) ⊎ (phase ≡ Level)
+LeadsTo Level program line phase = phase ≡ Over
+
+-- the place that comes next and how many records were not answered, before and behind a line that hands nothing on: they stay,
+-- but behind the record that was had last, where the peer's log may be another: then the first place comes next
+abbrev pub PlacesBehind : Phase → ℕ → ℕ → ℕ → ℕ → Type 0
+PlacesBehind (Check is_host) next missing next' missing' =
+    ((next' ≡ next) × (missing' ≡ missing)) ⊎ ((next' ≡ 1) × (missing' ≡ 0))
+PlacesBehind other next missing next' missing' = (next' ≡ next) × (missing' ≡ missing)
+
+-- the line tells the record that comes next, and it was handed on, as a line; records are due as before, or there was no memory
+-- to ask for more
+abbrev pub HandsOn : FollowState → List ℕ → List ℕ → Option PeerEvent → FollowState → List ℕ → Type 0
+HandsOn s line handed event s' handed' =
     (said : Record) × TellsRecord s.form s.phase s.next line said
     × (handed' ≡ handed ++ (record_spelling said ++ 10 ∷ [])) × (s'.next ≡ s.next + 1)
     × (s'.missing ≡ s.missing + 1)
+    × ((s'.phase ≡ s.phase) ⊎ ((s'.phase ≡ Over) × (event ≡ Some NoMemory)))
 
 -- Nothing was handed on. Then no records are due any more: of a `serve` all are here, or the connection is to be ended.
--- Where the line told the record that comes next, that is for want of memory.
+-- Where the line told the record that comes next, that is for want of memory. What is due then follows from what was.
 abbrev pub HandsNothing : FollowState → List ℕ → List ℕ → Option PeerEvent → FollowState → List ℕ → Type 0
 HandsNothing s line handed event s' handed' =
     (handed' ≡ handed) × (IsTrue (follows s.phase) → (s'.next ≡ s.next) × (s'.missing ≡ s.missing) × (follows s'.phase ≡ false))
     × ((said : Record) → TellsRecord s.form s.phase s.next line said → (event ≡ Some NoMemory) × (s'.phase ≡ Over))
+    × LeadsTo s.phase s.program line s'.phase
+    × PlacesBehind s.phase s.next s.missing s'.next s'.missing
 
 -- What hearing a line of the peer does, and what of it is to be told: the record that it tells is handed on, and nothing
 -- else ever is.
 abbrev pub Hears : FollowState → List ℕ → List ℕ → Option PeerEvent → FollowState → List ℕ → Type 0
 Hears s line handed event s' handed' =
-    HandsOn s line handed s' handed' ⊎ HandsNothing s line handed event s' handed'
+    HandsOn s line handed event s' handed' ⊎ HandsNothing s line handed event s' handed'
 
 -- the same of a line as it was cut: one of more than 128 bytes ends the connection
 abbrev pub HearsPiece : FollowState → Piece → List ℕ → Option PeerEvent → FollowState → List ℕ → Type 0
 HearsPiece s (Whole line) handed event s' handed' = Hears s line handed event s' handed'
-HearsPiece s Long handed event s' handed' = (handed' ≡ handed) × (s'.phase ≡ Over)
-HearsPiece s Torn handed event s' handed' = (handed' ≡ handed) × (s'.phase ≡ Over)
+HearsPiece s Long handed event s' handed' =
+    (handed' ≡ handed) × (s'.phase ≡ Over) × (s'.next ≡ s.next) × (s'.missing ≡ s.missing)
+HearsPiece s Torn handed event s' handed' =
+    (handed' ≡ handed) × (s'.phase ≡ Over) × (s'.next ≡ s.next) × (s'.missing ≡ s.missing)
+
+-- what is due where a `serve` that has nothing new is asked again
+abbrev pub phase_again : Phase → Phase
+phase_again Level = Asked
+phase_again other = other
 
 -- no connection: what comes next is the first record that was not answered
 abbrev pub unconnected : FollowState → FollowState

@@ -3,7 +3,7 @@
 //! A follower has no socket and no clock: bytes of the peer come in; bytes to the peer go out, and lines to be handed
 //! on, each a record that the peer told. Who has the follower has them answered, and brings it the answers. It keeps no
 //! more of the peer's bytes than one unfinished line.
-ghost use Rattle.std.specs.Prelude.{◌≡◌, ◌==◌, ◌&&◌, ◌↔◌, ℕ, List, ◌+◌, ◌-◌, ◌<◌, ◌≤◌, [], ◌∷◌, ◌++◌, false, IfNone, IfSome, IsTrue, OnErr};
+ghost use Rattle.std.specs.Prelude.{◌≡◌, ◌⊎◌, ◌==◌, ◌&&◌, ◌↔◌, ℕ, List, ◌+◌, ◌-◌, ◌<◌, ◌≤◌, [], ◌∷◌, ◌++◌, false, true, IfNone, IfSome, IsTrue, OnErr};
 ghost use Rattle.std.specs.Prelude.{OnOk, length, min};
 ghost use Rattle.std.specs.List.{before_first};
 ghost use Rattle.warp_tag.specs.Limits.{most_records, widest};
@@ -12,7 +12,7 @@ ghost use Rattle.warp_record.specs.Record.{record_spelling};
 ghost use Rattle.warp_record.specs.Reply.{IsReply, reply_spelling};
 ghost use Rattle.warp_record.specs.declared.record.Record.{Record};
 ghost use Rattle.warp_record.specs.declared.reply.Reply.{Reply};
-ghost use Rattle.warp_hub.specs.Follow.{Counts, Hears, HearsPiece, TellsRecord, follows, unconnected};
+ghost use Rattle.warp_hub.specs.Follow.{Counts, Hears, HearsPiece, IsFollowed, LeadsTo, PlacesBehind, TellsRecord, due_first, follows, phase_again, unconnected};
 ghost use Rattle.warp_hub.specs.declared.follow.Phase.{Phase};
 
 use itoa::Buffer;
@@ -200,6 +200,7 @@ impl Follower {
     pub fn connect(&mut self, said: &mut Vec<u8>) -> Result<(), OutOfMemory>
         ensures begins { self.new ≡ record (unconnected self.old) { phase = self.new.phase } }
         ensures waits { follows self.new.phase ≡ false }
+        ensures asks { OnOk result ((self.new.phase ≡ Phase.Token false) ⊎ (self.new.phase ≡ Phase.Program)) }
         ensures err { OnErr result (self.new.phase ≡ Phase.Over) }
     {
         self.lose();
@@ -239,7 +240,9 @@ impl Follower {
 
     /// Asks a `serve` that has nothing new again.
     pub fn ask_again(&mut self, said: &mut Vec<u8>) -> Result<(), OutOfMemory>
-        ensures { self.new ≡ record self.old { phase = self.new.phase } }
+        ensures same { self.new ≡ record self.old { phase = self.new.phase } }
+        ensures asked { OnOk result (self.new.phase ≡ phase_again self.old.phase) }
+        ensures err { OnErr result (self.new.phase ≡ Phase.Over) }
     {
         if self.phase != Phase::Level {
             return Ok(());
@@ -394,7 +397,8 @@ impl Follower {
         ensures others { self.new ≡ record self.old { phase = self.new.phase; next = self.new.next; missing = self.new.missing } }
     {
         match self.phase {
-            Phase::Over | Phase::Level => Some(self.end(PeerEvent::Strange)),
+            Phase::Over => Some(self.end(PeerEvent::Strange)),
+            Phase::Level => Some(self.end(PeerEvent::Strange)),
             Phase::Token(is_told) => self.on_token(line, is_told, said),
             Phase::Program => self.on_program(line, said),
             Phase::Check(is_host) => self.on_check(line, is_host, said),
@@ -407,6 +411,7 @@ impl Follower {
     /// Hears the answer to `token T`; of a peer that told no program before it is due now. A `serve` knows no such line.
     fn on_token(&mut self, line: &[u8], is_told: bool, said: &mut Vec<u8>) -> Option<PeerEvent>
         ensures others { self.new ≡ record self.old { phase = self.new.phase } }
+        ensures leads { LeadsTo (Phase.Token is_told) self.old.program line.now self.new.phase }
     {
         if is_keyword(line, REFUSED_13) {
             return Some(self.end(PeerEvent::NotAllowed));
@@ -424,6 +429,7 @@ impl Follower {
     /// Hears what a host of the own program answers to the token.
     fn on_rights(&mut self, line: &[u8], said: &mut Vec<u8>) -> Option<PeerEvent>
         ensures others { self.new ≡ record self.old { phase = self.new.phase } }
+        ensures leads { LeadsTo (Phase.Token true) self.old.program line.now self.new.phase }
     {
         if !line.starts_with(b"may ") {
             return Some(self.end(PeerEvent::Strange));
@@ -434,6 +440,7 @@ impl Follower {
     /// Hears the answer to `program`.
     fn on_program(&mut self, line: &[u8], said: &mut Vec<u8>) -> Option<PeerEvent>
         ensures others { self.new ≡ record self.old { phase = self.new.phase } }
+        ensures leads { LeadsTo Phase.Program self.old.program line.now self.new.phase }
     {
         if is_keyword(line, &self.program) {
             return self.show(said);
@@ -458,6 +465,7 @@ impl Follower {
     /// Says the token to a host of the own program, unless it was said or there is none: then it goes on.
     fn show(&mut self, said: &mut Vec<u8>) -> Option<PeerEvent>
         ensures others { self.new ≡ record self.old { phase = self.new.phase } }
+        ensures leads { (self.new.phase ≡ Phase.Token true) ⊎ IsFollowed true self.new.phase }
     {
         match self.say_token(false, said) {
             Ok(false) => self.check(true, said),
@@ -472,6 +480,7 @@ impl Follower {
     /// Asks for the record that was had last, to see that the peer's log is the same; if there is one.
     fn check(&mut self, is_host: bool, said: &mut Vec<u8>) -> Option<PeerEvent>
         ensures others { self.new ≡ record self.old { phase = self.new.phase } }
+        ensures follows { IsFollowed is_host self.new.phase }
     {
         if self.last.is_none() {
             return self.begin(is_host, said);
@@ -486,6 +495,8 @@ impl Follower {
     /// Hears the record that was had last. Where another one stands at its place, or none, the peer began anew.
     fn on_check(&mut self, line: &[u8], is_host: bool, said: &mut Vec<u8>) -> Option<PeerEvent>
         ensures others { self.new ≡ record self.old { phase = self.new.phase; next = self.new.next; missing = self.new.missing } }
+        ensures leads { LeadsTo (Phase.Check is_host) self.old.program line.now self.new.phase }
+        ensures places { PlacesBehind (Phase.Check is_host) self.old.next self.old.missing self.new.next self.new.missing }
     {
         let (len, there) = match read_reply(self.form, line) {
             Some(Reply::Log { log, record }) => (log, Some(record)),
@@ -493,10 +504,17 @@ impl Follower {
             _ => return Some(self.end_by(line)),
         };
         self.note_len(len, is_host);
+        self.compare(there);
+        self.begin(is_host, said)
+    }
+
+    /// Goes back to the first place, unless this stands where the record stood that was had last.
+    fn compare(&mut self, there: Option<Record>)
+        ensures { (self.new ≡ self.old) ⊎ (self.new ≡ record self.old { next = 1; missing = 0 }) }
+    {
         if there != self.last {
             self.start_over();
         }
-        self.begin(is_host, said)
     }
 
     /// A host told this length of its log. That of a `serve` is told with each of its records.
@@ -511,6 +529,7 @@ impl Follower {
     /// Begins to follow: asks for what comes next.
     fn begin(&mut self, is_host: bool, said: &mut Vec<u8>) -> Option<PeerEvent>
         ensures others { self.new ≡ record self.old { phase = self.new.phase } }
+        ensures due { (self.new.phase ≡ Phase.Over) ⊎ (self.new.phase ≡ due_first is_host) }
     {
         if is_host {
             return self.begin_watching(said);
@@ -528,6 +547,7 @@ impl Follower {
     /// Asks a host for all from the next place on.
     fn begin_watching(&mut self, said: &mut Vec<u8>) -> Option<PeerEvent>
         ensures others { self.new ≡ record self.old { phase = self.new.phase } }
+        ensures due { (self.new.phase ≡ Phase.Over) ⊎ (self.new.phase ≡ Phase.Watch) }
     {
         if watch(said, self.next).is_err() {
             return Some(self.end(PeerEvent::NoMemory));
@@ -539,6 +559,7 @@ impl Follower {
     /// Hears the answer to `watch log P`.
     fn on_watching(&mut self, line: &[u8]) -> Option<PeerEvent>
         ensures others { self.new ≡ record self.old { phase = self.new.phase } }
+        ensures leads { LeadsTo Phase.Watch self.old.program line.now self.new.phase }
     {
         if !line.starts_with(b"watching ") {
             return Some(self.end_by(line));
@@ -594,6 +615,7 @@ impl Follower {
     fn on_nothing(&mut self, line: &[u8]) -> Option<PeerEvent>
         ensures others { self.new ≡ record self.old { phase = self.new.phase } }
         ensures ends { follows self.new.phase ≡ false }
+        ensures leads { LeadsTo Phase.Asked self.old.program line.now self.new.phase }
     {
         match read_reply(self.form, line) {
             Some(Reply::Nothing { log }) if log + 1 == self.next && self.asked == 0 => {

@@ -9,9 +9,11 @@ mod page;
 mod pages;
 mod query;
 mod ready;
+mod site;
 
 pub use histogram::{Histogram, Stopwatch};
 pub use metrics::Seen;
 pub use names::Names;
 pub use pages::{Pages, Texts, Visit};
 pub use ready::Lacks;
+pub use site::Site;

@@ -5,8 +5,8 @@ use http::HeaderValue;
 /// What the page may do in a browser: its own style and script alone, told by their SHA-256, and connect to its host.
 const POLICY: &str = "\
 default-src 'none'; \
-script-src 'sha256-Ab+IEyx2HAP/ZxRdcfYkxKCOBSLYQASjeCmdOvx4n2A='; \
-style-src 'sha256-w6wrpSjQQo2ITNrYMfX6Z7+uynafgFVJ8u9XhCCqJFo='; \
+script-src 'sha256-0DLePC17CyjtzmxM6cpQ1uSvNfK6k0EWYvhpF3nTbFI='; \
+style-src 'sha256-d/a0rCczhXpjFCZ7Ap5v6YD9VJ6wfFrH9/NsAtHdbTQ='; \
 connect-src 'self'; \
 img-src data:; \
 base-uri 'none'; \
@@ -21,7 +21,7 @@ const PAGE: &[u8] = br##"<!doctype html>
 <meta name="color-scheme" content="light dark">
 <title>warpd</title>
 <link rel="icon" href="data:,">
-<style>:root{color-scheme:light dark;--ground:#f4f5f7;--card:#ffffff;--ink:#1b232c;--faint:#5a6673;--rule:#d3d9e0;--accent:#1d63a8;--late:#b8400a;--shade:#e6f1e9;--good:#1c7040;--new:#fdf0d0}@media (prefers-color-scheme:dark){:root{--ground:#14181d;--card:#1d2329;--ink:#e4e8ec;--faint:#9aa6b2;--rule:#38424c;--accent:#6db3f2;--late:#ff9a57;--shade:#1e3327;--good:#6fce94;--new:#453a1c}}*{box-sizing:border-box}body{margin:0 auto;padding:0.75rem;max-width:76rem;background:var(--ground);color:var(--ink);font:15px/1.45 system-ui,sans-serif}header,.row{display:flex;flex-wrap:wrap;align-items:center;gap:0.5rem 1rem}h1,h2,h3,p,dl,dd{margin:0}h1{font-size:1.4rem}h2{font-size:1.05rem;margin-bottom:0.5rem}h3{font-size:0.9rem;color:var(--faint);margin:0.5rem 0 0.25rem}main{display:grid;grid-template-columns:repeat(auto-fit,minmax(min(100%,22rem),1fr));grid-auto-flow:row dense;gap:0.75rem;margin-top:0.75rem}section{min-width:0;padding:0.75rem;background:var(--card);border:1px solid var(--rule);border-radius:8px}@media (min-width:50rem){.wide{grid-column:span 2}}#state{padding:0 0.6rem;border:1px solid;border-radius:1rem;color:var(--late)}#state[data-state="open"]{color:var(--good)}dl div{display:flex;gap:0.5rem}dt{flex:0 0 5rem;color:var(--faint)}dd{min-width:0;overflow-wrap:anywhere}table{width:100%;margin-top:0.5rem;border-collapse:collapse}caption,th{text-align:left;color:var(--faint);font-weight:normal}th,td{padding:0.15rem 0.5rem 0.15rem 0;border-bottom:1px solid var(--rule);vertical-align:top;overflow-wrap:anywhere}td:first-child,th:first-child,td:last-child{white-space:nowrap}canvas{display:block;width:100%;margin:0.5rem 0}ul{margin:0;padding:0 0 0 1.2rem}.box{position:relative;--row:28px;min-height:var(--row);max-height:15.4rem;overflow:auto;border:1px solid var(--rule);border-radius:6px}#open{max-height:9rem;overflow:auto}.box ul,#open{position:relative;padding:0;list-style:none;font-variant-numeric:tabular-nums}.box li,#open li{display:flex;gap:0.6rem;width:100%;height:28px;padding:0 0.6rem;line-height:28px;white-space:nowrap}.box li{position:absolute;top:0;height:var(--row);border-bottom:1px solid var(--rule)}li span{overflow:hidden;text-overflow:ellipsis}li .dim{flex:0 0 auto;min-width:3rem;color:var(--faint)}li .dim:empty{display:none}li .end{margin-left:auto;flex:0 0 auto}@media (max-width:30rem){#records{--row:50px}#records li{white-space:normal;line-height:24px}#records .end{flex-shrink:1}}li.late .end{color:var(--late)}li.new{background:var(--new)}form{display:grid;grid-template-columns:repeat(auto-fit,minmax(8rem,1fr));gap:0.5rem;align-items:end}form .row{grid-column:1 / -1}form label{display:grid;color:var(--faint)}input,select,button{min-width:0;padding:0.3rem 0.5rem;border:1px solid var(--faint);border-radius:6px;background:var(--card);color:var(--ink);font:inherit}button{padding:0.3rem 0.9rem;border-color:var(--accent);color:var(--accent);cursor:pointer}button:not([type]){background:var(--accent);color:var(--card)}:focus-visible{outline:3px solid var(--accent);outline-offset:1px}[hidden]{display:none !important}#answer{margin-top:0.5rem;min-height:1.5em;overflow-wrap:anywhere}.bad,#late.some{color:var(--late)}.good{color:var(--good)}</style>
+<style>:root{color-scheme:light dark;--ground:#f4f5f7;--card:#ffffff;--ink:#1b232c;--faint:#5a6673;--rule:#d3d9e0;--accent:#1d63a8;--late:#b8400a;--shade:#e6f1e9;--good:#1c7040;--new:#fdf0d0}@media (prefers-color-scheme:dark){:root{--ground:#14181d;--card:#1d2329;--ink:#e4e8ec;--faint:#9aa6b2;--rule:#38424c;--accent:#6db3f2;--late:#ff9a57;--shade:#1e3327;--good:#6fce94;--new:#453a1c}}*{box-sizing:border-box}body{margin:0 auto;padding:0.75rem;max-width:76rem;background:var(--ground);color:var(--ink);font:15px/1.45 system-ui,sans-serif}header,.row{display:flex;flex-wrap:wrap;align-items:center;gap:0.5rem 1rem}h1,h2,h3,p,dl,dd{margin:0}h1{font-size:1.4rem}h2{font-size:1.05rem;margin-bottom:0.5rem}h3{font-size:0.9rem;color:var(--faint);margin:0.5rem 0 0.25rem}main{display:grid;grid-template-columns:repeat(auto-fit,minmax(min(100%,22rem),1fr));grid-auto-flow:row dense;gap:0.75rem;margin-top:0.75rem}section{min-width:0;padding:0.75rem;background:var(--card);border:1px solid var(--rule);border-radius:8px}@media (min-width:50rem){.wide{grid-column:span 2}}#state{padding:0 0.6rem;border:1px solid;border-radius:1rem;color:var(--late)}#state[data-state="open"]{color:var(--good)}dl div{display:flex;gap:0.5rem}dt{flex:0 0 5rem;color:var(--faint)}dd{min-width:0;overflow-wrap:anywhere}table{width:100%;margin-top:0.5rem;border-collapse:collapse}caption,th{text-align:left;color:var(--faint);font-weight:normal}th,td{padding:0.15rem 0.5rem 0.15rem 0;border-bottom:1px solid var(--rule);vertical-align:top;overflow-wrap:anywhere}td:first-child,th:first-child,td:last-child{white-space:nowrap}canvas{display:block;width:100%;margin:0.5rem 0}#colours i{display:inline-block;width:0.8em;height:0.8em;margin-right:0.3em}ul{margin:0;padding:0 0 0 1.2rem}.box{position:relative;--row:28px;min-height:var(--row);max-height:15.4rem;overflow:auto;border:1px solid var(--rule);border-radius:6px}#open{max-height:9rem;overflow:auto}.box ul,#open{position:relative;padding:0;list-style:none;font-variant-numeric:tabular-nums}.box li,#open li{display:flex;gap:0.6rem;width:100%;height:28px;padding:0 0.6rem;line-height:28px;white-space:nowrap}.box li{position:absolute;top:0;height:var(--row);border-bottom:1px solid var(--rule)}li span{overflow:hidden;text-overflow:ellipsis}li .dim{flex:0 0 auto;min-width:3rem;color:var(--faint)}li .dim:empty{display:none}li .end{margin-left:auto;flex:0 0 auto}@media (max-width:30rem){#records{--row:50px}#records li{white-space:normal;line-height:24px}#records .end{flex-shrink:1}}li.late .end{color:var(--late)}li.new{background:var(--new)}form{display:grid;grid-template-columns:repeat(auto-fit,minmax(8rem,1fr));gap:0.5rem;align-items:end}form .row{grid-column:1 / -1}form label{display:grid;color:var(--faint)}input,select,button{min-width:0;padding:0.3rem 0.5rem;border:1px solid var(--faint);border-radius:6px;background:var(--card);color:var(--ink);font:inherit}button{padding:0.3rem 0.9rem;border-color:var(--accent);color:var(--accent);cursor:pointer}button:not([type]){background:var(--accent);color:var(--card)}:focus-visible{outline:3px solid var(--accent);outline-offset:1px}[hidden]{display:none !important}#answer{margin-top:0.5rem;min-height:1.5em;overflow-wrap:anywhere}.bad,#late.some{color:var(--late)}.good{color:var(--good)}</style>
 <header>
 <h1>warpd</h1>
 <p id="state" role="status" data-state="connecting">connecting</p>
@@ -49,6 +49,7 @@ const PAGE: &[u8] = br##"<!doctype html>
 <h2 id="h-board">Boards</h2>
 <p class="row"><label>Show <select id="board"></select></label></p>
 <canvas id="cells" role="img" aria-label="No cells yet"></canvas>
+<p class="row" id="colours"></p>
 </section>
 <section aria-labelledby="h-time" class="wide">
 <h2 id="h-time">Timeline</h2>
@@ -239,6 +240,7 @@ if (typeof value !== "bigint" && !Number.isSafeInteger(value)) throw new RangeEr
 if (value < least || value > most) throw new RangeError(`${name} is ${value}: it may be ${least} to ${most}`)
 return value
 }
+const NO_RANGE="which cells to watch is missing: say it as { array: \"r.board\" }, or as { from: 0, count: 9 }"
 const within=(most,least=0)=>word=>{
 const number = /^(0|[1-9]\d{0,15})$/.test(word) ? Number(word) : NaN
 if(number>=least&&number<=most)return number
@@ -665,8 +667,9 @@ return this.ask(`output ${index}`)
 lost(){
 return this.ask("lost")
 }
-cells(first,count){
-return this.ask(`cells ${first} ${count}`)
+async cells(first,count){
+if(first===undefined||count===undefined)throw new TypeError("which cells is missing: say it as cells(0, 9)")
+return this.ask(`cells ${whole("first", first, MOST_VALUES)} ${whole("count", count, MOST_CELLS, 1)}`)
 }
 async array(name){
 const{first,count}=this.names.array(name)
@@ -681,6 +684,7 @@ return this.ask("program")
 watch(what,callback=null,{from={log:1,released:0}[what]??null,count=null,array=null}={}){
 number("subject of a watch",what,SUBJECTS)
 if(array!==null)({first:from,count}=this.names.array(array))
+if(what==="cells"&&(from===null||count===null))throw new TypeError(NO_RANGE)
 if(what==="cells")from=whole("from",from,MOST_VALUES),count=whole("count",count,MOST_CELLS,1)
 else if (count !== null || (from !== null && what !== "log" && what !== "released")) throw new RangeError(`a watch of ${what} has no start`)
 this.#watches.get(what)?.end()
@@ -1084,9 +1088,10 @@ horizon ? `the horizon at ${tagText(horizon)}` : "no horizon",
 late ? `${lateCount} came late, the last went from ${tagText(late.back)} back to ${tagText(late.record)}` : "none came late",
 ].join(", ")
 }
-const MOST_COLOURS=12
+const COLOURS=["#0072b2","#d55e00","#009e73","#cc79a7","#e69f00","#56b4e9","#7c4dcc","#b3a100","#8c5a2b"]
+const SHADES=16
+const MOST_TOLD=12
 const LARGEST=18
-const COLOURS=["accent","good","late","ink"]
 function countsOf(values){
 const counts=new Map()
 for(const value of values)counts.set(value,(counts.get(value)??0)+ 1)
@@ -1094,14 +1099,24 @@ return new Map([...counts].sort(([one],[other])=>(one<other?-1:1)))
 }
 function boardText({name,sides:[rows,columns]},values){
 const counts=countsOf(values)
-const all = [...counts].slice(0, MOST_COLOURS).map(([value, count]) => `${count} of ${value}`)
-return `${name}, ${rows} rows of ${columns}: ${all.join(", ")}${counts.size > MOST_COLOURS ? " and others" : ""}`
+const all = [...counts].slice(0, MOST_TOLD).map(([value, count]) => `${count} of ${value}`)
+return `${name}, ${rows} rows of ${columns}: ${all.join(", ")}${counts.size > MOST_TOLD ? " and others" : ""}`
+}
+function coloursOf(values,ground){
+const kinds=[...countsOf(values).keys()]
+const [least,most]=[kinds[0],kinds.at(-1)]
+const shadeOf = value => Math.round(((SHADES - 1) * (Number(value) - Number(least))) / (Number(most) - Number(least) || 1))
+const isPlain=least>=0&&most<=COLOURS.length
+const colourOf = value => isPlain ? COLOURS[Number(value) - 1] ?? ground : `hsl(210 60% ${12 + (76 * shadeOf(value)) / (SHADES - 1)}%)`
+return { colourOf, meanings: (isPlain ? kinds : [...new Set([least, most])]).map((it, at) => [isPlain || !at ? `${it}` : `to ${it}`, colourOf(it)]) }
 }
 class Board{
 #canvas
+#legend
 #pen
-constructor(canvas){
+constructor(canvas,legend){
 this.#canvas=canvas
+this.#legend=legend
 this.#pen=canvas.getContext("2d")
 }
 draw({sides:[rows,columns]},values){
@@ -1110,24 +1125,18 @@ const ratio=window.devicePixelRatio||1
 Object.assign(this.#canvas,{width:Math.round(columns * size * ratio),height:Math.round(rows * size * ratio)})
 Object.assign(this.#canvas.style, { width: `${columns * size}px`, height: `${rows * size}px` })
 this.#pen.setTransform(ratio,0,0,ratio,0,0)
-const colours=this.#colours(values)
+const{colourOf,meanings}=coloursOf(values,getComputedStyle(document.documentElement).getPropertyValue("--rule"))
 const gap=size>5?1:0
 values.forEach((value,at)=>{
-this.#pen.fillStyle=colours(value)
+this.#pen.fillStyle=colourOf(value)
 this.#pen.fillRect((at % columns) * size, Math.floor(at / columns) * size, size - gap, size - gap)
 })
-}
-#colours(values){
-const style=getComputedStyle(document.documentElement)
-const named = name => style.getPropertyValue(`--${name}`)
-const kinds=[...countsOf(values).keys()].map(Number)
-const [least,most]=[kinds[0],kinds.at(-1)]
-if (kinds.length > MOST_COLOURS) return value => `hsl(210 60% ${12 + (76 * (Number(value) - least)) / (most - least)}%)`
-const places=new Map(kinds.filter(it=>it!==0).map((it,at)=>[it,at]))
-return value=>{
-const at=places.get(Number(value))
-return named(at === undefined ? "rule" : COLOURS[at]) || `hsl(${at * 47} 55% 50%)`
-}
+this.#legend.replaceChildren(...meanings.map(([text,colour])=>{
+const [part,square]=[document.createElement("span"),document.createElement("i")]
+square.style.background=colour
+part.append(square,text)
+return part
+}))
 }
 }
 const PAUSE=400
@@ -1135,7 +1144,7 @@ const at=id=>document.getElementById(id)
 const put=(id,text)=>at(id).textContent!==text&&(at(id).textContent=text)
 const replica=new Replica()
 const timeline=new Timeline(at("timeline"))
-const board=new Board(at("cells"))
+const board=new Board(at("cells"),at("colours"))
 const MOST_WATCHED=4096
 const EVERYBODY="*"
 const limits={log:"",origins:0}

@@ -5,6 +5,7 @@ use crate::names::Names;
 use crate::page::{page, policy};
 use crate::query::token_of;
 use crate::ready::Lacks;
+use crate::site::{Site, kind_of, name_in};
 use bytes::Bytes;
 use http::{HeaderMap, HeaderName, HeaderValue, Method, Request, StatusCode, Version};
 use http_server::{Response, Service};
@@ -20,6 +21,16 @@ const PLAIN: &str = "text/plain; charset=utf-8";
 const JSON: &str = "application/json";
 
 const METRICS: &str = "text/plain; version=0.0.4; charset=utf-8";
+
+/// What a page of a site may do in a browser: what is its own, a script in it, WebAssembly, and connect to its host.
+const SITE_POLICY: &str = "\
+default-src 'self' data: blob:; \
+script-src 'self' 'unsafe-inline' 'wasm-unsafe-eval'; \
+style-src 'self' 'unsafe-inline'; \
+connect-src 'self'; \
+base-uri 'none'; \
+form-action 'none'; \
+frame-ancestors 'none'";
 
 /// The status of an answer to a request that wants a token.
 const UNAUTHORIZED: u16 = 401;
@@ -70,6 +81,7 @@ pub struct Pages {
     tokens: Option<Tokens>,
     program: Bytes,
     names_json: Bytes,
+    site: Site,
     seen: Seen,
     /// How far the host is behind its peers.
     peers: Vec<PeerSeen>,
@@ -96,6 +108,8 @@ pub struct Texts {
     pub program: Vec<u8>,
     /// The names of its things, as `names` tells them.
     pub names_json: Vec<u8>,
+    /// The files that are served below `/site/`.
+    pub site: Site,
 }
 
 /// What an answer did beside being filled.
@@ -117,6 +131,8 @@ enum Place {
     Program,
     Names,
     Metrics,
+    Site,
+    SiteWithoutSlash,
     Unknown,
 }
 
@@ -130,6 +146,8 @@ fn place_of(path: &str) -> Place {
         "/program.json" => Place::Program,
         "/names.json" => Place::Names,
         "/metrics" => Place::Metrics,
+        "/site" => Place::SiteWithoutSlash,
+        _ if name_in(path).is_some() => Place::Site,
         _ => Place::Unknown,
     }
 }
@@ -166,6 +184,16 @@ fn fill_page(response: &mut Response) -> Result<Answered, AllocError> {
         response,
         HeaderValue::from_static(HTML),
         Bytes::from_static(page()),
+    )
+}
+
+/// Fills the answer where the site is asked for without its last `/`.
+fn fill_slash(response: &mut Response) -> Result<Answered, AllocError> {
+    refuse(response, StatusCode::PERMANENT_REDIRECT);
+    add_last(
+        response,
+        HeaderName::from_static("location"),
+        HeaderValue::from_static("site/"),
     )
 }
 
@@ -247,6 +275,7 @@ impl Pages {
             tokens,
             program,
             names_json,
+            site,
         } = texts;
         Ok(Pages {
             alloc,
@@ -254,6 +283,7 @@ impl Pages {
             tokens,
             program: Bytes::from_vec(program)?,
             names_json: Bytes::from_vec(names_json)?,
+            site,
             seen,
             peers: Vec::new(alloc),
             lacks: Lacks::nothing(),
@@ -436,6 +466,35 @@ impl Pages {
         )
     }
 
+    /// The place of this path: none is a site's where there is no site.
+    fn place(&self, path: &str) -> Place {
+        match place_of(path) {
+            Place::Site | Place::SiteWithoutSlash if self.site.is_empty() => Place::Unknown,
+            place => place,
+        }
+    }
+
+    /// Fills the answer to a request for a file of the site.
+    fn fill_site(&self, path: &str, response: &mut Response) -> Result<Answered, AllocError> {
+        let name = name_in(path).unwrap_or("");
+        let Some(bytes) = self.site.find(name) else {
+            return Ok(refuse(response, StatusCode::NOT_FOUND));
+        };
+        response.add_header(
+            HeaderName::from_static("content-security-policy"),
+            HeaderValue::from_static(SITE_POLICY),
+        )?;
+        response.add_header(
+            HeaderName::from_static("x-content-type-options"),
+            HeaderValue::from_static("nosniff"),
+        )?;
+        response.add_header(
+            HeaderName::from_static("cache-control"),
+            HeaderValue::from_static("no-cache"),
+        )?;
+        fill(response, kind_of(name), bytes.clone()?)
+    }
+
     /// Fills the answer to a request for this place.
     fn answer(
         &self,
@@ -470,6 +529,8 @@ impl Pages {
                     Bytes::from_vec(text)?,
                 )
             }
+            Place::Site => self.fill_site(request.uri().path(), response),
+            Place::SiteWithoutSlash => fill_slash(response),
             Place::Unknown => Ok(refuse(response, StatusCode::NOT_FOUND)),
         }
     }
@@ -493,10 +554,15 @@ impl Pages {
                 HeaderValue::from_static("GET, HEAD"),
             );
         }
-        let place = place_of(request.uri().path());
+        let place = self.place(request.uri().path());
         let is_open = matches!(
             place,
-            Place::Page | Place::Health | Place::Ready | Place::Web
+            Place::Page
+                | Place::Health
+                | Place::Ready
+                | Place::Web
+                | Place::Site
+                | Place::SiteWithoutSlash
         );
         if !is_open && !self.is_known(request) {
             refuse(response, StatusCode::UNAUTHORIZED);

@@ -173,6 +173,10 @@ lacking newest m =
       breach = lacks newest.breach m.breach;
     }
 
+-- there are some
+abbrev pub lacks_some : Unpushed → Bool
+lacks_some u = u.vars || u.cells || u.horizon || u.breach
+
 -- a page is on its way for it
 abbrev pub has_asked : Option Cursor → Bool
 has_asked None = false

@@ -1,5 +1,5 @@
 -- Steps that were noted, and wait until they may be told.
-use Rattle.std.specs.Prelude.{◌≡◌, ◌⊎◌, ◌-◌, ℕ, Bool, false, List, [], ◌∷◌, ◌++◌, None, if◌then◌else◌, length, nat_le}
+use Rattle.std.specs.Prelude.{◌≡◌, ◌⊎◌, ◌-◌, ◌<◌, ℕ, Bool, false, List, [], ◌∷◌, ◌++◌, None, if◌then◌else◌, length, nat_le}
 use Rattle.warp_hub.specs.declared.words.Subject.TheVariants as subject
 use Rattle.warp_push.specs.Marks.{sum_64}
 use Rattle.warp_push.specs.Texts.{lines_in, marked, step_mark}
@@ -54,6 +54,11 @@ room_of s = if nat_le 1024 (length s.waiting) then 0 else 262144 - s.bytes
 abbrev pub TakesNext : Noted → StepsState → StepsState → Type 0
 TakesNext one old new =
     (old.waiting ≡ one ∷ new.waiting) × (new ≡ record old { waiting = new.waiting; bytes = old.bytes - length one.text })
+
+-- what waits first, if anything does, is of a longer log
+abbrev pub AreLater : ℕ → List Noted → Type 0
+AreLater limit [] = Unit {0}
+AreLater limit (one ∷ behind) = limit < one.len
 
 -- this is pushed of it: its lines, each with the mark in front, how many they are, and how many were left out before them, to all
 abbrev pub IsStepsOf : Noted → Pushing → Type 0

@@ -1,5 +1,5 @@
 -- Clients by their keys: what each watches.
-use Rattle.std.specs.Prelude.{◌≡◌, ◌⊎◌, ◌<◌, ℕ, List, ◌++◌, Option, None, Some, length, replicate, slice_get, slice_set, map, Bool, true, false}
+use Rattle.std.specs.Prelude.{◌≡◌, ◌⊎◌, ◌<◌, ℕ, List, ◌++◌, Option, None, Some, length, nat_lt, replicate, slice_get, slice_set, map, Bool, true, false}
 use Rattle.warp_hub.specs.declared.words.Subject.{Subject}
 use Rattle.warp_hub.specs.declared.words.Subject.TheVariants as thing
 use Rattle.warp_hub.specs.declared.words.Word.{Word}
@@ -133,10 +133,23 @@ NotTold (question.Reached origin) who old new = new ≡ old
 abbrev pub GoesOnAt : ℕ → Option Cursor → Type 0
 GoesOnAt from cursor = (c : Cursor) × (cursor ≡ Some c) × (c.next ≡ from) × (c.is_done ≡ false)
 
--- the question is for a page of this client's own: it begins where the client goes on
+-- who goes on here is behind where the others are, if that is known; and that place, or 0
+abbrev pub is_before : ℕ → Option ℕ → Bool
+is_before next None = true
+is_before next (Some tail) = nat_lt next tail
+
+abbrev pub end_of : Option ℕ → ℕ
+end_of None = 0
+end_of (Some tail) = tail
+
+-- a page from here on ends behind its beginning, or nowhere
+abbrev pub EndsBehind : ℕ → ℕ → Type 0
+EndsBehind from until = (until ≡ 0) ⊎ (from < until)
+
+-- the question is for a page of this client's own: it begins where the client goes on, and has an end behind that or none
 abbrev pub IsOwnPage : ClientId → Question → List Seat → Type 0
-IsOwnPage who (question.Log from until) seats = IsThere who (λ s. GoesOnAt from s.marks.log) seats
-IsOwnPage who (question.Released from until) seats = IsThere who (λ s. GoesOnAt from s.marks.released) seats
+IsOwnPage who (question.Log from until) seats = IsThere who (λ s. GoesOnAt from s.marks.log) seats × EndsBehind from until
+IsOwnPage who (question.Released from until) seats = IsThere who (λ s. GoesOnAt from s.marks.released) seats × EndsBehind from until
 IsOwnPage who question.Vars seats = ⊥
 IsOwnPage who (question.Cells first count) seats = ⊥
 IsOwnPage who question.Releases seats = ⊥

@@ -1,8 +1,9 @@
 //! Who watches cells: for each range of variables that somebody watches, who does, and what was told of it.
 
-ghost use Rattle.std.specs.Prelude.{◌≡◌, ◌<◌, ◌∷◌, ◌++◌, [], IfSome, None, false, length, slice_get, true};
+ghost use Rattle.std.specs.Prelude.{◌≡◌, ◌==◌, ◌<◌, ◌∷◌, ◌++◌, [], IfNone, IfSome, None, false, length, position, slice_get, true};
 ghost use Rattle.warp_push.specs.Stretches.{SaysStretch};
-ghost use Rattle.warp_push.specs.Watching.{IsFor, TellsCells, TellsNext, keys_in, keys_of, place_of, watches};
+ghost use Rattle.warp_push.specs.Watching.{IsFor, Joins, OnlyTold, TellsCells, TellsNext, blank, changed, is_free, keys_in, keys_of, number_in, number_of, place_of};
+ghost use Rattle.warp_push.specs.Watching.{watches, without_key, without_place};
 
 use crate::marks::CellRange;
 use crate::shared::Latest;
@@ -53,7 +54,7 @@ impl Model for Group {
 impl Group {
     /// Nobody watches this range yet.
     fn new(alloc: Global, range: CellRange) -> Group
-        ensures { result ≡ record { range = range; keys = []; number = 0; line = [] } }
+        ensures { result ≡ blank range }
     {
         Group {
             range,
@@ -102,7 +103,8 @@ impl Group {
 
     /// This key is of a watcher from now on, which was not pushed any values; whether there was memory.
     fn join(&mut self, key: u32) -> bool
-        ensures { result ≡ true → self.new ≡ record self.old { keys = self.old.keys ++ key ∷ [] } }
+        ensures more { result ≡ true → self.new ≡ record self.old { keys = self.old.keys ++ key ∷ [] } }
+        ensures same { result ≡ false → self.new ≡ self.old }
     {
         self.latest.want(true);
         self.keys.push(key).is_ok()
@@ -110,10 +112,20 @@ impl Group {
 
     /// This key is of a watcher no longer.
     fn quit(&mut self, key: u32)
-        ensures { self.new ≡ record self.old { keys = self.new.keys } }
+        ensures { self.new ≡ record self.old { keys = without_key key self.old.keys } }
     {
-        if let Some(at) = place_of(&self.keys, key) {
-            let _key = self.keys.swap_remove(at);
+        let Some(at) = place_of(&self.keys, key) else {
+            return;
+        };
+        let _key = self.keys.swap_remove(at);
+    }
+
+    /// The key at this place is of a watcher no longer.
+    fn remove(&mut self, place: usize)
+        ensures { self.new ≡ record self.old { keys = without_place place self.old.keys } }
+    {
+        if place < self.keys.len() {
+            let _key = self.keys.swap_remove(place);
         }
     }
 
@@ -190,7 +202,8 @@ fn cell_news(
 
 /// Where this key stands in a list.
 fn place_of(keys: &[u32], key: u32) -> Option<usize>
-    ensures { IfSome result (λ at. at < length keys.now) }
+    ensures place { result ≡ position (λ one. one == key) keys.now }
+    ensures below { IfSome result (λ at. at < length keys.now) }
 {
     keys.iter().position(|one| *one == key)
 }
@@ -232,14 +245,15 @@ impl Groups {
 
     /// Where a group is in which nobody stands.
     fn find_free(&self) -> Option<usize>
-        ensures { IfSome result (λ at. at < length self.now) }
+        ensures { result ≡ position is_free self.now }
     {
         self.all.iter().position(|group| group.keys.is_empty())
     }
 
     /// Where the group of this range is, made where there is none. None without memory.
     fn make(&mut self, alloc: Global, range: CellRange) -> Option<usize>
-        ensures { IfSome result (IsFor range self.old self.new) }
+        ensures made { IfSome result (IsFor range self.old self.new) }
+        ensures same { IfNone result (self.new ≡ self.old) }
     {
         match self.find(range) {
             Some(at) => Some(at),
@@ -250,7 +264,8 @@ impl Groups {
     /// Where the group of this range is from now on. None without memory.
     fn make_anew(&mut self, alloc: Global, range: CellRange) -> Option<usize>
         requires { place_of range self.old ≡ None }
-        ensures { IfSome result (IsFor range self.old self.new) }
+        ensures made { IfSome result (IsFor range self.old self.new) }
+        ensures same { IfNone result (self.new ≡ self.old) }
     {
         if let Some(at) = self.find_free() {
             self.all[at] = Group::new(alloc, range);
@@ -266,7 +281,8 @@ impl Groups {
 
     /// The client of this key watches this range, and was not pushed it; whether there was memory.
     pub(crate) fn join(&mut self, alloc: Global, range: CellRange, key: u32) -> bool
-        ensures { result ≡ true → keys_of range self.new ≡ keys_of range self.old ++ key ∷ [] }
+        ensures last { result ≡ true → keys_of range self.new ≡ keys_of range self.old ++ key ∷ [] }
+        ensures joins { Joins range key result self.old self.new }
     {
         let Some(at) = self.make(alloc, range) else {
             return false;
@@ -275,12 +291,16 @@ impl Groups {
     }
 
     /// The client of this key watches this range no longer.
-    pub(crate) fn quit(&mut self, range: CellRange, key: u32) {
-        if let Some(at) = self.find(range) {
-            if at < self.all.len() {
-                self.all[at].quit(key);
-            }
+    pub(crate) fn quit(&mut self, range: CellRange, key: u32)
+        ensures { self.new ≡ changed (without_key key) (place_of range self.old) self.old }
+    {
+        let Some(at) = self.find(range) else {
+            return;
+        };
+        if at >= self.all.len() {
+            return;
         }
+        self.all[at].quit(key);
     }
 
     /// Some watcher was not pushed the newest values of this range.
@@ -295,17 +315,23 @@ impl Groups {
     }
 
     /// The number of the newest values of this range; 0 before the first.
-    pub(crate) fn version(&self, range: CellRange) -> u64 {
-        match self.group(range) {
-            Some(group) => group.version(),
+    pub(crate) fn version(&self, range: CellRange) -> u64
+        ensures { result ≡ number_of range self.now }
+    {
+        match self.find(range) {
+            Some(at) => self.version_at(at),
             None => 0,
         }
     }
 
-    /// The group of this range.
-    fn group(&self, range: CellRange) -> Option<&Group> {
-        let at = self.find(range)?;
-        self.all.get(at)
+    /// The number of the newest values of the range of the group at this place.
+    fn version_at(&self, at: usize) -> u64
+        ensures { result ≡ number_in (slice_get self.now at) }
+    {
+        if at >= self.all.len() {
+            return 0;
+        }
+        self.all[at].version()
     }
 
     /// The next question that is due at this length of the log; each group has its turn.
@@ -362,7 +388,8 @@ impl Groups {
         len: u32,
         text: &[u8],
     ) -> Option<CellNews>
-        ensures { IfSome result (λ one. TellsCells range one.version one.is_whole one.text.items text.now self.old self.new) }
+        ensures tells { IfSome result (λ one. TellsCells range one.version one.is_whole one.text.items text.now self.old self.new) }
+        ensures only { OnlyTold range self.old self.new }
     {
         let at = self.find(range)?;
         if at >= self.all.len() {
@@ -414,9 +441,15 @@ impl Groups {
     }
 
     /// Takes off the key at this place of those that watch this range.
-    pub(crate) fn remove(&mut self, range: CellRange, place: usize) {
-        if let Some(key) = self.key(range, place) {
-            self.quit(range, key);
+    pub(crate) fn remove(&mut self, range: CellRange, place: usize)
+        ensures { self.new ≡ changed (without_place place) (place_of range self.old) self.old }
+    {
+        let Some(at) = self.find(range) else {
+            return;
+        };
+        if at >= self.all.len() {
+            return;
         }
+        self.all[at].remove(place);
     }
 }

@@ -2,8 +2,11 @@
 ghost use Rattle.std.specs.Prelude.{◌≡◌, false};
 ghost use Rattle.warp_push.specs.Marks as marks;
 ghost use Rattle.warp_push.specs.Pages as pages;
+ghost use Rattle.warp_push.specs.Pushings.{is_own};
+ghost use Rattle.warp_push.specs.Watching.{told_range};
 
 use warp_hub::{Subject, Watch};
+use warp_watch::ClientId;
 
 /// While so many bytes are to be written to a client, no lines of steps are pushed to it.
 const MOST_BEFORE_STEPS: usize = 262_144;
@@ -388,6 +391,15 @@ pub(crate) struct Unpushed {
     pub(crate) breach: bool,
 }
 
+impl Unpushed {
+    /// Whether there are some.
+    pub(crate) fn are_some(&self) -> bool
+        ensures { result ≡ marks.lacks_some self.now }
+    {
+        self.vars || self.cells || self.horizon || self.breach
+    }
+}
+
 /// The numbers of the newest values that were told, of cells those of the range that is asked about.
 #[derive(Clone, Copy)]
 pub(crate) struct Newest {
@@ -520,5 +532,25 @@ impl Marks {
             Subject::Breach => take_value(&mut self.breach, news, unread),
             Subject::Steps => take_steps(&mut self.steps, news, unread),
         }
+    }
+}
+
+/// The range of which news tell values, if they tell any.
+pub(crate) fn told_range(news: News) -> Option<CellRange>
+    ensures { result ≡ told_range news }
+{
+    match news {
+        News::Page { .. } | News::Value(_) | News::Steps { .. } => None,
+        News::Cells { range, .. } => Some(range),
+    }
+}
+
+/// Whether what was told is a watcher's own.
+pub(crate) fn is_own(who: Option<ClientId>) -> bool
+    ensures { result ≡ is_own who }
+{
+    match who {
+        Some(_) => true,
+        None => false,
     }
 }

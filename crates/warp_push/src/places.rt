@@ -4,6 +4,7 @@ ghost use Rattle.std.specs.Prelude.{◌≡◌, ◌<◌, ◌≤◌, ◌↔◌, []
 ghost use Rattle.warp_push.specs.Marks as marks;
 ghost use Rattle.warp_push.specs.Seats.{GetsSeat, Grows, IsAway, IsMe, IsThere, May, OnlyAsks, Takes, Watches, WatchesNothing};
 ghost use Rattle.warp_push.specs.Seats.{empty_seat, fresh_seat, no_marks, settled};
+ghost use Rattle.warp_push.specs.Watching.{range_for};
 
 use crate::marks::{CellRange, Cursor, Given, Marks, NO_MARKS, Newest, News, Unpushed};
 use std::alloc::{AllocError, Global};
@@ -272,6 +273,7 @@ impl Places {
     pub(crate) fn begin(&mut self, who: ClientId, watch: Watch) -> Option<Unpushed>
         ensures begun { May who (Watches (marks.marks_with watch)) self.old self.new }
         ensures away { IfNone result (IsAway who self.old) }
+        ensures there { IfSome result (λ u. IsThere who (λ s. Unit {0}) self.old) }
     {
         let at = who.key as usize;
         if at >= self.all.len() || !self.all[at].is_me(who) {
@@ -324,7 +326,8 @@ impl Places {
 
     /// Which values a client watches of which it was not pushed the newest; none where it has no place.
     pub(crate) fn lacking(&self, who: ClientId, newest: Newest) -> Option<Unpushed>
-        ensures { IfSome result (λ u. IsThere who (λ s. u ≡ marks.lacking newest s.marks) self.now) }
+        ensures some { IfSome result (λ u. IsThere who (λ s. u ≡ marks.lacking newest s.marks) self.now) }
+        ensures none { IfNone result (IsAway who self.now) }
     {
         let at = who.key as usize;
         if at >= self.all.len() || !self.all[at].is_me(who) {
@@ -335,7 +338,8 @@ impl Places {
 
     /// The cells that a client watches, if it does.
     pub(crate) fn range(&self, who: ClientId) -> Option<CellRange>
-        ensures { IfSome result (λ r. IsThere who (λ s. marks.range_in s.marks ≡ Some r) self.now) }
+        ensures some { IfSome result (λ r. IsThere who (λ s. marks.range_in s.marks ≡ Some r) self.now) }
+        ensures is { result ≡ range_for who self.now }
     {
         let at = who.key as usize;
         if at >= self.all.len() || !self.all[at].is_me(who) {

@@ -1,6 +1,7 @@
 //! What is asked for all watchers of a thing at once.
 
 ghost use Rattle.std.specs.Prelude.{◌≡◌, ◌++◌, [], Bool, IfOk, IfSome, OnOk, false, true};
+ghost use Rattle.warp_push.specs.Seats.{end_of, is_before};
 ghost use Rattle.warp_push.specs.Watching.{KeepsLine};
 ghost use Rattle.warp_push.specs.Texts.{SaysValue, value_in};
 
@@ -110,7 +111,9 @@ impl Tail {
     }
 
     /// Whether a watcher that goes on here has to ask for a page of its own.
-    pub(crate) fn is_behind(&self, next: u32) -> bool {
+    pub(crate) fn is_behind(&self, next: u32) -> bool
+        ensures { result ≡ is_before next self.now.next }
+    {
         match self.next {
             Some(tail) => next < tail,
             None => true,
@@ -118,7 +121,9 @@ impl Tail {
     }
 
     /// Up to where a watcher's own page goes; 0 where there is no end to it.
-    pub(crate) fn until(&self) -> u32 {
+    pub(crate) fn until(&self) -> u32
+        ensures { result ≡ end_of self.now.next }
+    {
         self.next.unwrap_or(0)
     }
 }

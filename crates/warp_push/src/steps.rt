@@ -2,7 +2,7 @@
 
 ghost use Rattle.std.specs.Prelude.{◌≡◌, ◌≤◌, ◌++◌, ◌∷◌, [], IfNone, IfSome, false, if◌then◌else◌, true};
 ghost use Rattle.warp_push.specs.Marks.{sum_64};
-ghost use Rattle.warp_push.specs.Noted.{IsStepsOf, Keeps, LeavesOut, PutsLeftOut, TakesNext, no_steps, put_on, room_of};
+ghost use Rattle.warp_push.specs.Noted.{AreLater, IsStepsOf, Keeps, LeavesOut, PutsLeftOut, TakesNext, no_steps, put_on, room_of};
 ghost use Rattle.warp_push.specs.Texts.{lines_in};
 
 use crate::marks::News;
@@ -160,6 +160,7 @@ impl Steps {
         ensures within { IfSome result (λ one. one.len ≤ limit) }
         ensures first { IfSome result (λ one. TakesNext one self.old self.new) }
         ensures none { IfNone result (self.new ≡ self.old) }
+        ensures later { IfNone result (AreLater limit self.old.waiting) }
     {
         let first = self.waiting.front()?;
         if first.len > limit {

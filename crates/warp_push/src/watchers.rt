@@ -1,16 +1,20 @@
 //! Who watches what, what is asked for them, what was told, and what is pushed of it.
 
-ghost use Rattle.std.specs.Prelude.{◌≡◌, ◌⊎◌, ◌≤◌, [], Contains, IfSome, None, OnErr, OnOk, Some, false, length, slice_get, true};
-ghost use Rattle.warp_push.specs.Pushings.{IsCells, IsPage, IsPushedOf, IsValue, is_own};
-ghost use Rattle.warp_push.specs.Seats.{AsksFor, GetsSeat, GoesOnAt, Grows, IsAway, IsOwnPage, IsThere, May, NoPage, NotTold, Notes};
-ghost use Rattle.warp_push.specs.Seats.{OnlyAsks, Takes, Watches, WatchesNothing};
+ghost use Rattle.std.specs.Prelude.{◌≡◌, ◌⊎◌, ◌≤◌, ◌&&◌, ◌∷◌, ◌++◌, [], Contains, IfNone, IfSome, None, OnErr, OnOk, Some, false, length, slice_get, true};
+ghost use Rattle.warp_push.specs.Pushings.{IsCells, IsPage, IsPushedOf, IsValue};
+ghost use Rattle.warp_push.specs.Seats.{AsksFor, EndsBehind, GetsSeat, GoesOnAt, Grows, IsAway, IsMe, IsOwnPage, IsThere, May, NoPage, NotTold, Notes};
+ghost use Rattle.warp_push.specs.Seats.{OnlyAsks, Seat, Takes, Watches, WatchesNothing};
 ghost use Rattle.warp_push.specs.Marks as marks;
-ghost use Rattle.warp_push.specs.Watching.{Stands, StandsBy, keys_of, told_range};
+ghost use Rattle.warp_push.specs.Watching.{CellsBegin, HandsOut, IsNobody, KeepsTold, NotesCells, OnlyKeeps, OnlyTold, Stands, StandsBy, cells_without};
+ghost use Rattle.warp_push.specs.Watching.{changed_of, keys_of, left_by, may_lack, newest_for, no_value, number_for, range_for, told_range, without_place};
+ghost use Rattle.warp_hub.specs.declared.words.Subject.TheVariants.{Breach, Horizon, Vars};
 ghost use Rattle.warp_hub.specs.declared.words.Watch.TheVariants.{Cells};
 
 use crate::groups::{CellNews, Groups};
 use crate::lists::Lists;
-use crate::marks::{CellRange, Given, Newest, News, Unpushed, may_get_values, subject_of};
+use crate::marks::{
+    CellRange, Given, Newest, News, Unpushed, is_own, may_get_values, subject_of, told_range,
+};
 use crate::page::page_text;
 use crate::places::Places;
 use crate::shared::{Latest, NO_TAIL, Tail};
@@ -102,13 +106,20 @@ impl Model for Watchers {
 
     ghost Value = { Watching };
 
-    ghost view = { λ w. record { seats = w.places; cells = w.groups } };
+    ghost view = { λ w. record {
+      seats = w.places;
+      cells = w.groups;
+      vars = record { number = w.vars.version; line = w.vars.text.items };
+      horizon = record { number = w.horizon.version; line = w.horizon.text.items };
+      breach = record { number = w.breach.version; line = w.breach.text.items };
+      told = w.told.items;
+    } };
 }
 
 impl Watchers {
     /// Nobody watches.
     pub fn new(alloc: Global) -> Watchers
-        ensures { result ≡ record { seats = []; cells = [] } }
+        ensures { result ≡ record { seats = []; cells = []; vars = no_value; horizon = no_value; breach = no_value; told = [] } }
     {
         Watchers {
             alloc,
@@ -129,14 +140,15 @@ impl Watchers {
     pub fn place(&mut self, who: ClientId) -> Result<(), AllocError>
         ensures ok { OnOk result (GetsSeat who self.old.seats self.new.seats) }
         ensures err { OnErr result (Grows self.old.seats self.new.seats) }
-        ensures cells { self.new.cells ≡ self.old.cells }
+        ensures rest { self.new ≡ record self.old { seats = self.new.seats } }
     {
         self.places.place(who)
     }
 
     /// A client is gone: it watches nothing.
     pub fn leave(&mut self, who: ClientId)
-        ensures { May who WatchesNothing self.old.seats self.new.seats }
+        ensures watches { May who WatchesNothing self.old.seats self.new.seats }
+        ensures rest { self.new ≡ record self.old { seats = self.new.seats; cells = left_by who self.old.seats self.old.cells } }
     {
         self.quit(who);
         self.places.clear(who);
@@ -144,7 +156,7 @@ impl Watchers {
 
     /// A client is of the group of no range any more.
     fn quit(&mut self, who: ClientId)
-        ensures { self.new.seats ≡ self.old.seats }
+        ensures { self.new ≡ record self.old { cells = left_by who self.old.seats self.old.cells } }
     {
         if let Some(range) = self.places.range(who) {
             self.groups.quit(range, who.key);
@@ -160,6 +172,9 @@ impl Watchers {
     pub fn note(&mut self, who: ClientId, word: &Word) -> bool
         ensures noted { Notes who word.now self.old.seats self.new.seats }
         ensures stands { Stands who word.now result self.old.seats self.new.cells }
+        ensures cells { NotesCells who word.now result self.old.seats self.old.cells self.new.cells }
+        ensures rest { self.new ≡ record self.old { seats = self.new.seats; cells = self.new.cells } }
+        ensures done { may_lack word.now ≡ false → result ≡ true }
     {
         match *word {
             Word::Watch(watch) => self.begin(who, watch),
@@ -183,6 +198,8 @@ impl Watchers {
     fn begin(&mut self, who: ClientId, watch: Watch) -> bool
         ensures begun { May who (Watches (marks.marks_with watch)) self.old.seats self.new.seats }
         ensures stands { StandsBy who watch result self.old.seats self.new.cells }
+        ensures cells { CellsBegin who watch result self.old.seats self.old.cells self.new.cells }
+        ensures rest { self.new ≡ record self.old { seats = self.new.seats; cells = self.new.cells } }
     {
         match watch {
             Watch::Cells(first, count) => self.begin_cells(who, CellRange { first, count }),
@@ -197,7 +214,8 @@ impl Watchers {
 
     /// A client begins to watch what is told in lists of watchers; whether there was memory.
     fn begin_listed(&mut self, who: ClientId, watch: Watch) -> bool
-        ensures { May who (Watches (marks.marks_with watch)) self.old.seats self.new.seats }
+        ensures begun { May who (Watches (marks.marks_with watch)) self.old.seats self.new.seats }
+        ensures rest { self.new ≡ record self.old { seats = self.new.seats } }
     {
         let Some(unpushed) = self.places.begin(who, watch) else {
             return true;
@@ -210,6 +228,8 @@ impl Watchers {
     fn begin_cells(&mut self, who: ClientId, range: CellRange) -> bool
         ensures begun { May who (Watches (marks.marks_with (Cells range.first range.count))) self.old.seats self.new.seats }
         ensures stands { result ≡ true → IsAway who self.old.seats ⊎ Contains (keys_of range self.new.cells) who.key }
+        ensures cells { CellsBegin who (Cells range.first range.count) result self.old.seats self.old.cells self.new.cells }
+        ensures rest { self.new ≡ record self.old { seats = self.new.seats; cells = self.new.cells } }
     {
         self.quit(who);
         let watch = Watch::Cells(range.first, range.count);
@@ -222,12 +242,26 @@ impl Watchers {
 
     /// A client watches this no longer.
     fn end(&mut self, who: ClientId, subject: Subject)
-        ensures { May who (Watches (marks.marks_without subject)) self.old.seats self.new.seats }
+        ensures ended { May who (Watches (marks.marks_without subject)) self.old.seats self.new.seats }
+        ensures rest { self.new ≡ record self.old { seats = self.new.seats; cells = cells_without who subject self.old.seats self.old.cells } }
     {
-        if let Subject::Cells = subject {
-            self.quit(who);
-        }
+        self.quit_of(who, subject);
         self.places.end(who, subject);
+    }
+
+    /// A client that watches this no longer is of the group of no range any more, where these are cells.
+    fn quit_of(&mut self, who: ClientId, subject: Subject)
+        ensures { self.new ≡ record self.old { cells = cells_without who subject self.old.seats self.old.cells } }
+    {
+        match subject {
+            Subject::Cells => self.quit(who),
+            Subject::Log
+            | Subject::Released
+            | Subject::Vars
+            | Subject::Horizon
+            | Subject::Breach
+            | Subject::Steps => {}
+        }
     }
 
     /// A watcher was not pushed these values.
@@ -313,7 +347,7 @@ impl Watchers {
         ensures only { OnlyAsks self.old.seats self.new.seats }
         ensures own { IfSome result (λ question. IsOwnPage who question self.old.seats) }
         ensures asked { IfSome result (λ question. AsksFor who question self.old.seats self.new.seats) }
-        ensures cells { self.new.cells ≡ self.old.cells }
+        ensures rest { self.new ≡ record self.old { seats = self.new.seats } }
     {
         let question = self.next_page(who)?;
         if self.wants_page(who) {
@@ -327,7 +361,7 @@ impl Watchers {
         ensures only { OnlyAsks self.old.seats self.new.seats }
         ensures own { IfSome result (λ question. IsOwnPage who question self.old.seats) }
         ensures asked { IfSome result (λ question. AsksFor who question self.old.seats self.new.seats) }
-        ensures cells { self.new.cells ≡ self.old.cells }
+        ensures rest { self.new ≡ record self.old { seats = self.new.seats } }
     {
         if let Some((from, until)) = self.page_of(who, Subject::Log) {
             self.places.ask(who, Subject::Log, true);
@@ -345,7 +379,8 @@ impl Watchers {
 
     /// From where to where the page goes that a client wants of its own.
     fn page_of(&self, who: ClientId, subject: Subject) -> Option<(u32, u32)>
-        ensures { IfSome result (λ at. IsThere who (λ s. GoesOnAt at.0 (marks.cursor_in subject s.marks)) self.now.seats) }
+        ensures there { IfSome result (λ at. IsThere who (λ s. GoesOnAt at.0 (marks.cursor_in subject s.marks)) self.now.seats) }
+        ensures end { IfSome result (λ at. EndsBehind at.0 at.1) }
     {
         let cursor = self.places.cursor(who, subject)?;
         let tail = self.tail(subject);
@@ -415,7 +450,7 @@ impl Watchers {
     pub fn missed(&mut self, asked: &Asked)
         ensures only { OnlyAsks self.old.seats self.new.seats }
         ensures again { NotTold asked.now.question asked.now.who self.old.seats self.new.seats }
-        ensures cells { self.new.cells ≡ self.old.cells }
+        ensures rest { self.new ≡ record self.old { seats = self.new.seats } }
     {
         match asked.question {
             Question::Log { .. } => self.miss_page(asked.who, Subject::Log),
@@ -435,7 +470,7 @@ impl Watchers {
     fn miss_page(&mut self, who: Option<ClientId>, subject: Subject)
         ensures only { OnlyAsks self.old.seats self.new.seats }
         ensures again { NoPage subject who self.old.seats self.new.seats }
-        ensures cells { self.new.cells ≡ self.old.cells }
+        ensures rest { self.new ≡ record self.old { seats = self.new.seats } }
     {
         match who {
             Some(who) => {
@@ -464,17 +499,25 @@ impl Watchers {
     /// This was told. Without memory it is asked again.
     pub fn keep(&mut self, asked: Asked, told: Told)
         ensures only { OnlyAsks self.old.seats self.new.seats }
-        ensures cells { self.new.cells ≡ self.old.cells }
+        ensures kept { KeepsTold (record { asked = asked; told = told }) self.old self.new }
     {
-        if self.told.push_back(Answered { asked, told }).is_err() {
-            self.missed(&asked);
+        if self.add(Answered { asked, told }) {
+            return;
         }
+        self.missed(&asked);
+    }
+
+    /// What was told waits behind the others; whether there was memory.
+    fn add(&mut self, answered: Answered) -> bool
+        ensures added { result ≡ true → self.new ≡ record self.old { told = self.old.told ++ answered ∷ [] } }
+        ensures same { result ≡ false → self.new ≡ self.old }
+    {
+        self.told.push_back(answered).is_ok()
     }
 
     /// What was told first, if it is of a log of no more records than so many.
     pub fn next_within(&mut self, limit: u32) -> Option<Answered>
-        ensures same { self.new ≡ self.old }
-        ensures within { IfSome result (λ one. one.told.len ≤ limit) }
+        ensures { HandsOut limit result self.old self.new }
     {
         let first = self.told.front()?;
         if first.told.len > limit {
@@ -486,16 +529,17 @@ impl Watchers {
     /// What is pushed of what was told, if anything is. Without memory it is asked again.
     pub fn pushing(&mut self, answered: &Answered) -> Option<Pushing>
         ensures only { OnlyAsks self.old.seats self.new.seats }
-        ensures of { IfSome result (λ one. IsPushedOf answered.now.asked.question answered.now one self.old.cells self.new.cells) }
+        ensures of { IfSome result (λ one. IsPushedOf answered.now.asked.question answered.now one self.old self.new) }
+        ensures keeps { OnlyKeeps answered.now.asked.question self.old self.new }
     {
         match answered.asked.question {
             Question::Log { from, until } => self.page(Subject::Log, from, until, answered),
             Question::Released { from, until } => {
                 self.page(Subject::Released, from, until, answered)
             }
-            Question::Vars => self.value(Subject::Vars, answered),
-            Question::Horizon => self.value(Subject::Horizon, answered),
-            Question::Breaches => self.value(Subject::Breach, answered),
+            Question::Vars => self.vars_of(answered),
+            Question::Horizon => self.horizon_of(answered),
+            Question::Breaches => self.breach_of(answered),
             Question::Cells { first, count } => self.cells(CellRange { first, count }, answered),
             Question::Releases
             | Question::Release(_)
@@ -514,7 +558,7 @@ impl Watchers {
     ) -> Option<Pushing>
         ensures only { OnlyAsks self.old.seats self.new.seats }
         ensures of { IfSome result (λ one. IsPage subject from answered.now one) }
-        ensures cells { self.new.cells ≡ self.old.cells }
+        ensures rest { self.new ≡ record self.old { seats = self.new.seats } }
     {
         let told = &answered.told;
         let Ok(text) = page_text(self.alloc, &told.text, told.frozen) else {
@@ -564,22 +608,35 @@ impl Watchers {
         }
     }
 
-    /// The newest value of a thing that is pushed to all that were not pushed it.
-    fn value(&mut self, subject: Subject, answered: &Answered) -> Option<Pushing>
-        ensures same { self.new ≡ self.old }
-        ensures of { IfSome result (λ one. IsValue subject answered.now one) }
+    /// The variables that are pushed to all that were not pushed them.
+    fn vars_of(&mut self, answered: &Answered) -> Option<Pushing>
+        ensures of { IfSome result (λ one. IsValue Vars answered.now one self.old.vars self.new.vars) }
+        ensures rest { self.new ≡ record self.old { vars = self.new.vars } }
     {
-        match subject {
-            Subject::Vars => value_of(&mut self.vars, self.alloc, subject, answered),
-            Subject::Horizon => value_of(&mut self.horizon, self.alloc, subject, answered),
-            _ => value_of(&mut self.breach, self.alloc, subject, answered),
-        }
+        value_of(&mut self.vars, self.alloc, Subject::Vars, answered)
+    }
+
+    /// The horizon that is pushed to all that were not pushed it.
+    fn horizon_of(&mut self, answered: &Answered) -> Option<Pushing>
+        ensures of { IfSome result (λ one. IsValue Horizon answered.now one self.old.horizon self.new.horizon) }
+        ensures rest { self.new ≡ record self.old { horizon = self.new.horizon } }
+    {
+        value_of(&mut self.horizon, self.alloc, Subject::Horizon, answered)
+    }
+
+    /// The broken origins that are pushed to all that were not pushed them.
+    fn breach_of(&mut self, answered: &Answered) -> Option<Pushing>
+        ensures of { IfSome result (λ one. IsValue Breach answered.now one self.old.breach self.new.breach) }
+        ensures rest { self.new ≡ record self.old { breach = self.new.breach } }
+    {
+        value_of(&mut self.breach, self.alloc, Subject::Breach, answered)
     }
 
     /// The newest values of a range of variables that are pushed to those that were not pushed them. None where it has none.
     fn cells(&mut self, range: CellRange, answered: &Answered) -> Option<Pushing>
-        ensures same { self.new.seats ≡ self.old.seats }
         ensures of { IfSome result (λ one. IsCells range.first range.count answered.now one self.old.cells self.new.cells) }
+        ensures only { OnlyTold range self.old.cells self.new.cells }
+        ensures rest { self.new ≡ record self.old { cells = self.new.cells } }
     {
         let told = &answered.told;
         let CellNews {
@@ -623,6 +680,8 @@ impl Watchers {
         ensures listed { IfSome (told_range pushing.now.news) (λ range.
             IfSome result (λ who. slice_get (keys_of range self.now.cells) at ≡ Some who.key)) }
         ensures there { IfSome result (λ who. IsThere who (λ s. Unit {0}) self.now.seats) }
+        ensures none { IfNone result (IfSome (told_range pushing.now.news) (λ range.
+            IsNobody (slice_get (keys_of range self.now.cells) at) self.now.seats)) }
     {
         let key = self.key(pushing, at)?;
         self.places.who(key)
@@ -640,11 +699,11 @@ impl Watchers {
 
     /// Who stands at this place of that list watches no longer: it leaves the list.
     pub fn drop_at(&mut self, pushing: &Pushing, at: usize)
-        ensures { self.new.seats ≡ self.old.seats }
+        ensures { self.new ≡ record self.old { cells = changed_of (without_place at) (told_range pushing.now.news) self.old.cells } }
     {
-        match pushing.news {
-            News::Cells { range, .. } => self.groups.remove(range, at),
-            _ => self.drop_listed(pushing.subject, at),
+        match told_range(pushing.news) {
+            Some(range) => self.groups.remove(range, at),
+            None => self.drop_listed(pushing.subject, at),
         }
     }
 
@@ -664,6 +723,8 @@ impl Watchers {
         ensures same { self.new ≡ self.old }
         ensures gets { result ≡ true → marks.gets_values unread ≡ true }
         ensures there { result ≡ true → IsThere who (λ s. Unit {0}) self.old.seats }
+        ensures lacks { (s : Seat) → slice_get self.old.seats who.key ≡ Some s → IsMe who s
+            → result ≡ (marks.gets_values unread && marks.lacks_some (marks.lacking (newest_for who self.old) s.marks)) }
     {
         if !may_get_values(unread) {
             return false;
@@ -673,11 +734,13 @@ impl Watchers {
             return false;
         };
         self.want_values(who, lacking);
-        lacking.vars || lacking.cells || lacking.horizon || lacking.breach
+        lacking.are_some()
     }
 
     /// The numbers of the newest values, of cells of those that a client watches.
-    fn newest(&self, who: ClientId) -> Newest {
+    fn newest(&self, who: ClientId) -> Newest
+        ensures { result ≡ newest_for who self.now }
+    {
         Newest {
             vars: self.vars.version(),
             cells: self.cells_version(who),
@@ -687,7 +750,9 @@ impl Watchers {
     }
 
     /// The number of the newest values of the cells that a client watches; 0 where it watches none.
-    fn cells_version(&self, who: ClientId) -> u64 {
+    fn cells_version(&self, who: ClientId) -> u64
+        ensures { result ≡ number_for (range_for who self.now.seats) self.now.cells }
+    {
         match self.places.range(who) {
             Some(range) => self.groups.version(range),
             None => 0,
@@ -705,7 +770,7 @@ impl Watchers {
     ) -> Option<Given>
         ensures takes { May who (Takes subject news unread result) self.old.seats self.new.seats }
         ensures away { IsAway who self.old.seats → result ≡ None }
-        ensures cells { self.new.cells ≡ self.old.cells }
+        ensures rest { self.new ≡ record self.old { seats = self.new.seats } }
     {
         self.places.take(who, subject, news, unread)
     }
@@ -718,30 +783,11 @@ fn value_of(
     subject: Subject,
     answered: &Answered,
 ) -> Option<Pushing>
-    ensures { IfSome result (λ one. IsValue subject answered.now one) }
+    ensures { IfSome result (λ one. IsValue subject answered.now one (record { number = latest.old.version; line = latest.old.text.items })
+        (record { number = latest.new.version; line = latest.new.text.items })) }
 {
     let told = &answered.told;
     let text = latest.news(alloc, told.len, &told.text)?;
     let news = News::Value(latest.version());
     Some(Pushing::to_all(subject, news, told.len, text))
-}
-
-/// Whether what was told is a watcher's own.
-fn is_own(who: Option<ClientId>) -> bool
-    ensures { result ≡ is_own who }
-{
-    match who {
-        Some(_) => true,
-        None => false,
-    }
-}
-
-/// The range of which news tell values, if they tell any.
-fn told_range(news: News) -> Option<CellRange>
-    ensures { result ≡ told_range news }
-{
-    match news {
-        News::Page { .. } | News::Value(_) | News::Steps { .. } => None,
-        News::Cells { range, .. } => Some(range),
-    }
 }

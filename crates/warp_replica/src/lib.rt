@@ -11,6 +11,7 @@
 
 mod answer;
 mod asking;
+mod closing;
 mod entering;
 mod idle;
 mod law;

@@ -42,8 +42,8 @@ use warp_tag::{OutOfMemory, Tag};
 /// in the order of taking, and the timeline, which stands for both with some rows done.
 #[derive(Drop)]
 pub struct Replica<T: Timeline> {
-    program: Program,
-    table: Table,
+    pub(crate) program: Program,
+    pub(crate) table: Table,
     timeline: T,
 }
 

@@ -1,5 +1,6 @@
 pub mod Clients
 mod ServedLines
+mod KeptLogs
 pub mod Runs
 mod Parts
 pub mod OpenLines
@@ -12,3 +13,6 @@ mod CallSteps
 mod Hearing
 mod Digests
 pub mod Older
+mod KeptReleases
+mod NothingKept
+mod OwnLines

@@ -5,13 +5,15 @@ use Rattle.std.proofs.lemmas.Bool.{cases_Bool}
 use Rattle.std.proofs.lemmas.Bool.Decides.{nat_tests}
 use Rattle.std.proofs.lemmas.List.{append_assoc}
 use Rattle.warp_record.specs.declared.line.Line.{Line}
+use Rattle.warp_record.specs.declared.record.Record.{Record}
 use Rattle.warp_replica.specs.Answered.{TimelineFacts}
+use Rattle.warp_replica.specs.declared.answer.Answer.{Answer}
 use Rattle.warp_replica.proofs.Histories.{set_there}
 use Rattle.warp_watch.specs.declared.client_id.ClientId.{ClientId}
 use Rattle.warp_room.specs.declared.answers.AnsweredLine.{AnsweredLine}
 use Rattle.warp_room.specs.Queues.{GetsSeat, IsSeat, QueuesState, SeatState, lines_in, lines_of, new_seat}
 use Rattle.warp_room.specs.Room.{RoomState, is_client, of_client, open_lines, without}
-use Rattle.warp_room.specs.Steps.{Hands, Leaves, RoomDoes, Serves}
+use Rattle.warp_room.specs.Steps.{Hands, Leaves, RoomDoes, Says, Serves}
 use Rattle.warp_room.specs.Steps.{Came, Heard}
 use Rattle.warp_room.proofs.ServedLines.{saids}
 use Rattle.warp_room.proofs.Clients.{client_differs, client_is, client_itself, client_parts, differs_client}
@@ -245,6 +247,11 @@ module _ {T : Type 0} where
       ap (λ (served : List AnsweredLine). saids (of_client other served)) d.first
       ∙ ap (λ (x : Bool). saids (cond x (one ∷ of_client other r'.made) (of_client other r'.made))) (differs_client other one.who differ) in
       opened r r' other (sym made) (ap (λ (x : RoomState T). lines_of x.queues.seats other) d.leaves)
+
+  pub own_said : (facts : TimelineFacts T) (r r' : RoomState T) (one : Record) (answer : Answer) (who : ClientId) → Says facts one answer r r'
+      → open_lines r' who ≡ open_lines r who
+  own_said facts r r' one answer who d =
+      opened r r' who (same_made r r' who (ap (λ (x : RoomState T). x.made) d.leaves)) (ap (λ (x : RoomState T). lines_of x.queues.seats who) d.leaves)
 
   pub left : (r r' : RoomState T) (who : ClientId) → Leaves who r r' → open_lines r' who ≡ []
   left r r' who d =

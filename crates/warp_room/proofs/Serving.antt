@@ -3,17 +3,22 @@ use Rattle.std.proofs.Common.{◌≡◌, ◌⊎◌, ◌<◌, ◌≤◌, ℕ, len
 use Rattle.std.specs.Prelude.{IsTrue}
 use Rattle.warp_line.specs.declared.progress.Progress.{Progress}
 use Rattle.warp_line.specs.declared.progress.Progress.TheVariants.{Settled, Paused}
+use Rattle.warp_record.specs.declared.line.Line.{Line}
+use Rattle.warp_record.specs.declared.line.Line.TheVariants.{Put}
 use Rattle.warp_replica.specs.Answered.{AnswersLine, TimelineFacts}
-use Rattle.warp_replica.specs.History.{IsServed}
+use Rattle.warp_replica.specs.declared.answer.Answer.{Answer}
 use Rattle.warp_replica.specs.Replica.{ReplicaState}
-use Rattle.warp_replica.proofs.Growing.{begins, grows}
 use Rattle.warp_watch.specs.Shown.{ShownState}
 use Rattle.warp_room.specs.declared.answers.AnsweredLine.{AnsweredLine}
+use Rattle.warp_room.specs.declared.answers.Outcome.{Outcome}
+use Rattle.warp_room.specs.declared.answers.Outcome.TheVariants.{Replied}
 use Rattle.warp_room.specs.declared.room.Worked.{Worked}
 use Rattle.warp_room.specs.declared.room.Worked.TheVariants.{NoMemory}
-use Rattle.warp_room.specs.Room.{AreShownBefore, RoomState, history_of}
-use Rattle.warp_room.specs.Steps.{EndsTurn, EndsWork, NeedsAll, Serves, ServeEach}
-use Rattle.warp_room.proofs.ServedLines.{served_more}
+use Rattle.warp_room.specs.Gate.{ComesTo}
+use Rattle.warp_room.specs.Room.{AreHeld, AreKept, AreShownBefore, RoomState}
+use Rattle.warp_room.specs.Steps.{EndsTurn, EndsWork, MaySay, NeedsAll, Serves, ServeEach}
+use Rattle.warp_room.proofs.KeptLogs.{kept_more, line_goes_on, own_goes_on}
+use Rattle.warp_room.proofs.ServedLines.{Came, came, held_later, held_more, replied}
 use Rattle.warp_room.proofs.ShownBefore.{shown_later}
 use Rattle.warp_room.proofs.Digests.{counted_later}
 use Rattle.warp_room.specs.Digested.{IsCounted}
@@ -34,18 +39,64 @@ module _ {T : Type 0} (facts : TimelineFacts T) where
   each_more [] one r r' r'' all last = (r'', subst (λ (x : RoomState T). Serves facts one x r'') all last, refl)
   each_more (s ∷ served) one r r' r'' all last = (all.0, all.1, each_more served one all.0 r' r'' all.2 last)
 
-  -- the invariant of a room whose replica answered a line
-  pub kept_served : (r r' : ReplicaState T) (made : List AnsweredLine) (one : AnsweredLine) (shown : ShownState) (digest : DigestState)
-      → IsServed r.program r.records (history_of made) → AreShownBefore r.program r.records shown → IsCounted r.records digest
-      → AnswersLine facts r one.said one.answer r' → IsServed r'.program r'.records (history_of (made ++ one ∷ []))
-      × AreShownBefore r'.program r'.records shown × IsCounted r'.records digest
-  kept_served r r' made one shown digest s begun counted a =
-      let b = begins r.records one.answer.reply r'.records (grows r.program r.records one.said one.answer.reply r'.records a.given.gives) in (
-        served_more facts r r' made one s a,
-        subst (λ (P : Program). AreShownBefore P r'.records shown) (sym a.given.program)
-            (subst (λ (l : List Record). AreShownBefore r.program l shown) (sym b.1) (shown_later r.program r.records b.0 shown begun)),
-        subst (λ (l : List Record). IsCounted l digest) (sym b.1) (counted_later r.records b.0 digest counted),
+  -- the invariant of a room whose client's line came to something
+  pub kept_came : (keeps : ℕ → Bool) (r r' : ReplicaState T) (made : List AnsweredLine) (said : Line) (len : ℕ) (told : Outcome) (shown : ShownState) (digest : DigestState)
+      → AreHeld r.program r.records made → AreShownBefore r.program r.records shown → IsCounted r.records digest → Came r said len told r'
+      → AreHeld r'.program r'.records made × AreShownBefore r'.program r'.records shown × IsCounted r'.records digest
+  kept_came keeps r r' made said len told shown digest held begun counted b = (
+    subst (λ (P : Program). AreHeld P r'.records made) (sym b.program)
+        (subst (λ (l : List Record). AreHeld r.program l made) (sym b.grew) (held_later r.program r.records b.rest made held)),
+    subst (λ (P : Program). AreShownBefore P r'.records shown) (sym b.program)
+        (subst (λ (l : List Record). AreShownBefore r.program l shown) (sym b.grew) (shown_later r.program r.records b.rest shown begun)),
+    subst (λ (l : List Record). IsCounted l digest) (sym b.grew) (counted_later r.records b.rest digest counted),
+  )
+
+  -- the invariant of a room whose host gave the replica a record of its own
+  pub kept_said : (keeps : ℕ → Bool) (r r' : ReplicaState T) (made : List AnsweredLine) (one : Record) (answer : Answer) (shown : ShownState) (digest : DigestState)
+      → AreHeld r.program r.records made → AreShownBefore r.program r.records shown → IsCounted r.records digest → AreKept keeps r.program r.records
+      → MaySay keeps r.program r.records one → AnswersLine facts r (Put one) answer r' → AreHeld r'.program r'.records made
+      × AreShownBefore r'.program r'.records shown × IsCounted r'.records digest × AreKept keeps r'.program r'.records
+  kept_said keeps r r' made one answer shown digest held begun counted kept may a =
+      let b = replied keeps facts r r' (Put one) answer.len answer.reply a in
+      let all = kept_came keeps r r' made (Put one) answer.len (Replied answer.reply) shown digest held begun counted b in (
+        all.0,
+        all.1,
+        all.2,
+        kept_more keeps facts r r' b.program (λ first on. own_goes_on keeps facts r r' first one answer on may a) kept,
       )
+
+  pub kept_served : (keeps : ℕ → Bool) (r r' : ReplicaState T) (made : List AnsweredLine) (one : AnsweredLine) (shown : ShownState) (digest : DigestState)
+      → AreHeld r.program r.records made → AreShownBefore r.program r.records shown → IsCounted r.records digest → AreKept keeps r.program r.records
+      → ComesTo keeps facts r one.said one.answer.len one.answer.outcome r' → AreHeld r'.program r'.records (made ++ one ∷ [])
+      × AreShownBefore r'.program r'.records shown × IsCounted r'.records digest × AreKept keeps r'.program r'.records
+  kept_served keeps r r' made one shown digest held begun counted kept c =
+      let b = came keeps facts r r' one.said one.answer.len one.answer.outcome c in
+      let all = kept_came keeps r r' made one.said one.answer.len one.answer.outcome shown digest held begun counted b in (
+        held_more r r' made one held b,
+        all.1,
+        all.2,
+        kept_more keeps facts r r' b.program
+            (λ first on. line_goes_on keeps facts r r' first one.said one.answer.len one.answer.outcome on c) kept,
+      )
+
+  -- a replica that a call left as it is
+  pub kept_same : (keeps : ℕ → Bool) (r r' : ReplicaState T) (made : List AnsweredLine) (shown : ShownState) (digest : DigestState) → r' ≡ r
+      → AreHeld r.program r.records made × AreShownBefore r.program r.records shown × IsCounted r.records digest × AreKept keeps r.program r.records
+      → AreHeld r'.program r'.records made × AreShownBefore r'.program r'.records shown × IsCounted r'.records digest × AreKept keeps r'.program r'.records
+  kept_same keeps r r' made shown digest same all =
+      subst (λ (x : ReplicaState T). AreHeld x.program x.records made × AreShownBefore x.program x.records shown × IsCounted x.records digest
+      × AreKept keeps x.program x.records) (sym same) all
+
+  -- one that kept its program and its log
+  pub kept_on : (keeps : ℕ → Bool) (r r' : ReplicaState T) (made : List AnsweredLine) (shown : ShownState) (digest : DigestState) → r'.program ≡ r.program
+      → r'.records ≡ r.records
+      → AreHeld r.program r.records made × AreShownBefore r.program r.records shown × IsCounted r.records digest × AreKept keeps r.program r.records
+      → AreHeld r'.program r'.records made × AreShownBefore r'.program r'.records shown × IsCounted r'.records digest × AreKept keeps r'.program r'.records
+  kept_on keeps r r' made shown digest program records all =
+      subst (λ (P : Program). AreHeld P r'.records made × AreShownBefore P r'.records shown × IsCounted r'.records digest × AreKept keeps P r'.records)
+      (sym program)
+      (subst (λ (l : List Record). AreHeld r.program l made × AreShownBefore r.program l shown × IsCounted l digest × AreKept keeps r.program l)
+      (sym records) all)
 
   -- one line or none
   pub one_or_none : (most : ℕ) (r r' : RoomState T) (result : Option Worked) → 0 < most → IfNone result ((one : AnsweredLine) × Serves facts one r r')

@@ -1,18 +1,31 @@
 -- What the calls of a room do to it, step by step.
-use Rattle.std.specs.Prelude.{◌≡◌, ◌⊎◌, ℕ, ◌<◌, ◌≤◌, Bool, true, false, IsTrue, List, [], ◌∷◌, ◌++◌, length}
+use Rattle.std.specs.Prelude.{◌≡◌, ◌⊎◌, ℕ, ℤ, ◌<◌, ◌≤◌, Bool, true, false, IsTrue, List, [], ◌∷◌, ◌++◌, None, length}
 use Rattle.std.specs.List.{AllByRecursion, list_any}
+use Rattle.warp_tag.specs.Moment.{Moment}
+use Rattle.warp_step.specs.Program.{Program}
 use Rattle.warp_step.specs.Run.{Row}
 use Rattle.warp_line.specs.Timeline.{Settles, Standing}
 use Rattle.warp_record.specs.declared.line.Line.{Line}
+use Rattle.warp_record.specs.declared.line.Line.TheVariants.{Put}
+use Rattle.warp_record.specs.declared.record.Record.{Record}
+use Rattle.warp_record.specs.declared.record.Record.TheVariants.{Event}
+use Rattle.warp_table.specs.Records.{set_of}
+use Rattle.warp_keep.specs.Judging.{IsClosing, IsJointClosing}
+use Rattle.warp_keep.specs.Keeping.{keeps}
+use Rattle.warp_keep.specs.Kept.{AreAllKept, SpeaksOfKept}
+use Rattle.warp_keep.specs.Stamps.{IsStamp}
 use Rattle.warp_replica.specs.Answered.{AnswersLine, TimelineFacts}
-use Rattle.warp_replica.specs.History.{IsGiven}
 use Rattle.warp_replica.specs.Replica.{ReplicaState, Stands, standing_of}
+use Rattle.warp_replica.specs.declared.answer.Answer.{Answer}
 use Rattle.warp_watch.specs.declared.client_id.ClientId.{ClientId}
 use Rattle.warp_room.specs.declared.answers.AnsweredLine.{AnsweredLine}
+use Rattle.warp_room.specs.declared.answers.Outcome.{Outcome}
+use Rattle.warp_room.specs.declared.answers.Outcome.TheVariants as outcome
 use Rattle.warp_room.specs.declared.room.Worked.{Worked}
 use Rattle.warp_room.specs.declared.room.Worked.TheVariants.{Idle, More, Held, NoMemory}
+use Rattle.warp_room.specs.Gate.{ComesTo, IsTold}
 use Rattle.warp_room.specs.Queues.{Comes, Hears, IsFirst, IsSeat, LeavesSeat, SeatState, TakesLine, has_turn}
-use Rattle.warp_room.specs.Room.{RoomState, is_client, without}
+use Rattle.warp_room.specs.Room.{Logged, RoomState, is_client, with_line, without}
 
 -- Execution went on, by at most so many steps, and by so many where it did not come to its end, unless it lacked memory; no
 -- record came, and nothing was let go of. A settled replica stays as it is.
@@ -33,7 +46,7 @@ NeedsAll facts r all =
     × (IsTrue all → IsTrue (facts.settled r.timeline) ⊎ facts.refused r.timeline)
 
 -- A line was answered, where fewer than so many answers waited: the oldest of the client whose turn it was. The replica
--- was given it, and the answer waits behind the others.
+-- was given it, unless a record is kept out of the log, and the answer waits behind the others.
 pub record Serves {T : Type 0} (facts : TimelineFacts T) (one : AnsweredLine) (r r' : RoomState T) : Type 0 where
   pub all : Bool
   pub seat : SeatState
@@ -43,7 +56,7 @@ pub record Serves {T : Type 0} (facts : TimelineFacts T) (one : AnsweredLine) (r
   pub turn : IsFirst all r.queues.seats r.queues.next one.who.key
   pub there : IsSeat r.queues.seats one.who seat
   pub oldest : seat.lines ≡ one.said ∷ rest
-  pub answers : AnswersLine facts r.replica one.said one.answer r'.replica
+  pub comes : ComesTo (keeps r.keeping) facts r.replica one.said one.answer.len one.answer.outcome r'.replica
   pub takes : TakesLine one.who seat rest r.queues r'.queues
   pub leaves : r' ≡ record r { replica = r'.replica; queues = r'.queues; made = r.made ++ one ∷ [] }
 
@@ -74,12 +87,12 @@ pub record Works {T : Type 0} (stands_for : T → Standing → Type 0) (facts : 
   pub serves : ServeEach facts served (record r { replica = between }) r'
   pub ends : EndsWork facts worked most_lines served r'
 
--- The first of the answers that wait is handed on: it is what its line gave on the log, which had no more records than so
+-- The first of the answers that wait is handed on: it is what its line came to on the log, which had no more records than so
 -- many then.
 pub record Hands {T : Type 0} (limit : ℕ) (one : AnsweredLine) (r r' : RoomState T) : Type 0 where
   pub first : r.made ≡ one ∷ r'.made
   pub limited : one.answer.len ≤ limit
-  pub given : IsGiven r.replica.program r.replica.records one.said one.answer
+  pub told : IsTold r.replica.program r.replica.records one.said one.answer.len one.answer.outcome
   pub leaves : r' ≡ record r { made = r'.made }
 
 -- no answer waits, or the first is of a log of more records than so many, and so are all behind it
@@ -91,6 +104,27 @@ pub record Leaves {T : Type 0} (who : ClientId) (r r' : RoomState T) : Type 0 wh
   pub seat : LeavesSeat who r.queues r'.queues
   pub leaves : r' ≡ record r { queues = r'.queues; made = without who r.made }
 
+-- a stamped input of the origin: its tag is the stamp by what was asked
+abbrev pub IsStamped : List Record → ℕ → Record → Type 0
+IsStamped log origin one =
+    (most : ℕ) × (asked : Moment) × (tag : Moment) × (input : ℕ) × (value : ℤ)
+    × (one ≡ Event origin tag input value) × IsStamp most (set_of log) origin asked tag
+
+-- What the host may say itself, of what it keeps alone: that an origin's tags before one are closed, or those of all origins, if all
+-- are kept; or a stamped input.
+abbrev pub MaySay : (ℕ → Bool) → Program → List Record → Record → Type 0
+MaySay kept P log one =
+    SpeaksOfKept kept one
+    × (((origin : ℕ) × (end : Moment) × IsClosing (set_of log) origin end one)
+    ⊎ ((AreAllKept P kept × ((end : Moment) × IsJointClosing (set_of log) end one))
+    ⊎ ((origin : ℕ) × IsStamped log origin one)))
+
+-- the host gave the replica a record of its own, which was answered at once
+pub record Says {T : Type 0} (facts : TimelineFacts T) (one : Record) (answer : Answer) (r r' : RoomState T) : Type 0 where
+  pub may : MaySay (keeps r.keeping) r.replica.program r.replica.records one
+  pub answers : AnswersLine facts r.replica (Put one) answer r'.replica
+  pub leaves : r' ≡ record r { replica = r'.replica }
+
 -- one step of a room
 pub data RoomStep : Type 0 where
   Came : ClientId → RoomStep
@@ -99,6 +133,7 @@ pub data RoomStep : Type 0 where
   Executed : RoomStep
   Answered : AnsweredLine → RoomStep
   Handed : AnsweredLine → RoomStep
+  Said : Record → Answer → RoomStep
 
 -- What a step does. Execution, and telling what is asked, leave program and log as they are.
 abbrev pub RoomDoes : {T : Type 0} → TimelineFacts T → RoomStep → RoomState T → RoomState T → Type 0
@@ -110,6 +145,7 @@ RoomDoes facts Executed r r' =
     × (r' ≡ record r { replica = r'.replica; shown = r'.shown })
 RoomDoes facts (Answered one) r r' = Serves facts one r r'
 RoomDoes facts (Handed one) r r' = (limit : ℕ) × Hands limit one r r'
+RoomDoes facts (Said one answer) r r' = Says facts one answer r r'
 
 -- these steps, one after another
 abbrev pub RoomRuns : {T : Type 0} → TimelineFacts T → List RoomStep → RoomState T → RoomState T → Type 0
@@ -125,6 +161,43 @@ served_in (Heard who said ∷ steps) = served_in steps
 served_in (Executed ∷ steps) = served_in steps
 served_in (Answered one ∷ steps) = one ∷ served_in steps
 served_in (Handed one ∷ steps) = served_in steps
+served_in (Said one answer ∷ steps) = served_in steps
+
+-- it was left to the log, and answered by the replica's reply
+abbrev pub IsReply : Outcome → Type 0
+IsReply (outcome.Replied reply) = Unit {0}
+IsReply outcome.Kept = ⊥
+IsReply outcome.Late = ⊥
+IsReply outcome.Differs = ⊥
+
+abbrev pub IsReplied : AnsweredLine → Type 0
+IsReplied one = IsReply one.answer.outcome
+
+-- a record that the host gave the replica itself, with its answer
+abbrev pub own : Record → Answer → Logged
+own one answer = record { who = None; said = Put one; answer = answer }
+
+-- those that it gave in these steps, in their order
+abbrev pub own_in : List RoomStep → List Logged
+own_in [] = []
+own_in (Came who ∷ steps) = own_in steps
+own_in (Left who ∷ steps) = own_in steps
+own_in (Heard who said ∷ steps) = own_in steps
+own_in (Executed ∷ steps) = own_in steps
+own_in (Answered one ∷ steps) = own_in steps
+own_in (Handed one ∷ steps) = own_in steps
+own_in (Said one answer ∷ steps) = own one answer ∷ own_in steps
+
+-- all lines that the replica was given in these steps, in their order: the host's, and those of clients that were left to the log
+abbrev pub logged_in : List RoomStep → List Logged
+logged_in [] = []
+logged_in (Came who ∷ steps) = logged_in steps
+logged_in (Left who ∷ steps) = logged_in steps
+logged_in (Heard who said ∷ steps) = logged_in steps
+logged_in (Executed ∷ steps) = logged_in steps
+logged_in (Answered one ∷ steps) = with_line one.who one.said one.answer.len one.answer.outcome (logged_in steps)
+logged_in (Handed one ∷ steps) = logged_in steps
+logged_in (Said one answer ∷ steps) = own one answer ∷ logged_in steps
 
 -- whose line was answered is among these clients
 abbrev pub HasClient : List ClientId → AnsweredLine → Type 0

@@ -4,9 +4,30 @@ ghost use Rattle.warp_room.specs.Room.{is_client, without};
 ghost use Rattle.warp_room.specs.declared.answers.AnsweredLine.{AnsweredLine};
 
 use std::collections::VecDeque;
-use warp_record::Line;
-use warp_replica::Answer;
+use warp_record::{Line, Reply};
 use warp_watch::ClientId;
+
+/// What a client is told of its line.
+#[derive(Clone, Copy, Debug, PartialEq, Eq)]
+pub enum Outcome {
+    /// The line was left to the log, and this is the replica's reply.
+    Replied(Reply),
+    /// It announces for a kept origin, which its keeper alone does: `refused 15`.
+    Kept,
+    /// Its name is of a kept origin, and closed: `refused 16`.
+    Late,
+    /// Its name is of a kept origin, and has another payload: `refused 17`.
+    Differs,
+}
+
+/// The answer to a line.
+#[derive(Clone, Copy, Debug)]
+pub struct LineAnswer {
+    /// The length of the log that the line left.
+    pub len: u32,
+    /// What is told.
+    pub outcome: Outcome,
+}
 
 /// A line that was answered.
 #[derive(Clone, Copy, Debug)]
@@ -15,8 +36,8 @@ pub struct AnsweredLine {
     pub who: ClientId,
     /// The line.
     pub said: Line,
-    /// Its answer, with the length of the log that the line left.
-    pub answer: Answer,
+    /// Its answer.
+    pub answer: LineAnswer,
 }
 
 /// Takes off the first that waits, where its answer is of a log of no more records than so many.

@@ -8,7 +8,9 @@
 
 mod answers;
 mod digested;
+mod gate;
 mod law;
+mod own;
 mod queues;
 mod records;
 mod room;
@@ -16,13 +18,16 @@ mod showing;
 #[cfg(test)]
 mod tests;
 
-pub use answers::AnsweredLine;
+pub use answers::{AnsweredLine, LineAnswer, Outcome};
 pub use digested::Digested;
 pub use law::{
-    calls_are_steps, comers_are_new, few_wait, is_history, oldest_first, one_digest, records_once,
+    calls_are_steps, comers_are_new, few_wait, is_history, kept_stays, nothing_kept, oldest_first,
+    one_digest, records_once,
 };
+pub use own::{Input, Sent, Unsent};
 pub use queues::Unheard;
 pub use room::{Room, Untold, Worked};
+pub use warp_keep::Keeping;
 pub use warp_line::Progress;
 pub use warp_replica::Answer;
 pub use warp_tag::OutOfMemory;

@@ -3,6 +3,7 @@ ghost use Rattle.std.specs.Prelude.{◌≡◌, ◌⊎◌, ◌+◌, ◌<◌, ◌�
 ghost use Rattle.std.specs.Prelude.{IfSome, IsTrue, List, OnErr, OnOk, ◌||◌, drop, length, not, take};
 ghost use Rattle.warp_tag.specs.Limits.{most_rows};
 ghost use Rattle.warp_table.specs.Records.{set_of};
+ghost use Rattle.warp_keep.specs.declared.keeping.Keeping.TheVariants as keeping;
 ghost use Rattle.warp_record.specs.declared.line.Line.{Line};
 ghost use Rattle.warp_replica.specs.Answered.{Answered, AnswersLine, facts_of};
 ghost use Rattle.warp_replica.specs.Answers.{Answers, AreAnswers};
@@ -17,12 +18,14 @@ ghost use Rattle.warp_room.specs.Queues.{Comes, Hears, IsSeat, SeatState, lines_
 ghost use Rattle.warp_room.specs.Steps.{EndsTurn, EndsWork, Hands, HandsNone, Leaves, Serves, ServeEach, Works};
 
 use crate::answers::{AnsweredLine, forget, next_within};
+use crate::gate::answer_or_keep_out;
 use crate::queues::{Queues, Unheard};
 use crate::records::copy_behind;
 use std::alloc::Global;
 use std::collections::VecDeque;
 use std::marker::Model;
 use warp_digest::Digest;
+use warp_keep::Keeping;
 use warp_line::{Progress, Timeline};
 use warp_record::{Line, Look, Record, Refusal, Reply};
 use warp_replica::{Answer, Replica};
@@ -51,7 +54,7 @@ pub enum Untold {
     NoMemory,
 }
 
-/// A replica with what waits of its clients.
+/// A replica with what waits of its clients, and the origins that it keeps.
 #[derive(Drop)]
 pub struct Room<T: Timeline> {
     pub(crate) replica: Replica<T>,
@@ -59,15 +62,16 @@ pub struct Room<T: Timeline> {
     made: VecDeque<AnsweredLine>,
     pub(crate) shown: Shown,
     pub(crate) digest: Digest,
+    pub(crate) keeping: Keeping,
     most_lines: u32,
     most_answers: u32,
 }
 
 impl<T: Timeline> Model for Room<T> {
-    ghost use Rattle.warp_replica.specs.History.{IsServed};
+    ghost use Rattle.warp_keep.specs.Keeping.{keeps};
     ghost use Rattle.warp_room.specs.Codes.{room_code};
     ghost use Rattle.warp_room.specs.Digested.{IsCounted};
-    ghost use Rattle.warp_room.specs.Room.{AreShownBefore, RoomState, history_of};
+    ghost use Rattle.warp_room.specs.Room.{AreHeld, AreKept, AreShownBefore, RoomState};
 
     ghost Value = { RoomState T };
 
@@ -79,25 +83,29 @@ impl<T: Timeline> Model for Room<T> {
           queues = r.queues;
           made = r.made.items;
           shown = r.shown;
+          keeping = r.keeping;
           most_lines = r.most_lines;
           most_answers = r.most_answers;
         } };
 
     ghost invariant = { λ r.
-        IsServed r.replica.program r.replica.records (history_of r.made.items)
+        AreHeld r.replica.program r.replica.records r.made.items
         × AreShownBefore r.replica.program r.replica.records r.shown
-        × IsCounted r.replica.records r.digest };
+        × IsCounted r.replica.records r.digest
+        × AreKept (keeps r.keeping) r.replica.program r.replica.records };
 }
 
 impl<T: Timeline> Room<T> {
-    /// A room over this replica, without clients. At most `most_lines` lines of a client wait to be answered, and no line
-    /// is answered while `most_answers` answers or more wait to be handed on: with 0 of either nothing is done.
+    /// A room over this replica, without clients, that keeps nothing. At most `most_lines` lines of a client wait to be
+    /// answered, and no line is answered while `most_answers` answers or more wait to be handed on: with 0 of either
+    /// nothing is done.
     pub fn new(alloc: Global, replica: Replica<T>, most_lines: u32, most_answers: u32) -> Room<T>
         ensures { result ≡ record {
           replica = replica;
           queues = record { seats = []; next = 0; came = 0 };
           made = [];
           shown = record { rows = []; frozen = false };
+          keeping = keeping.Nothing;
           most_lines = most_lines;
           most_answers = most_answers;
         } }
@@ -108,6 +116,7 @@ impl<T: Timeline> Room<T> {
             made: VecDeque::new(alloc),
             shown: Shown::new(alloc),
             digest: Digest::new(alloc),
+            keeping: Keeping::Nothing,
             most_lines,
             most_answers,
         }
@@ -324,7 +333,13 @@ impl<T: Timeline> Room<T> {
             return Some(Worked::NoMemory);
         }
         self.queues.take_line(turn.who);
-        let answer = answer_line(&mut self.replica, alloc, turn.line, lacking);
+        let answer = answer_or_keep_out(
+            &self.keeping,
+            &mut self.replica,
+            alloc,
+            turn.line,
+            lacking,
+        );
         self.made.push_back_reserved(AnsweredLine {
             who: turn.who,
             said: turn.line,
@@ -383,7 +398,7 @@ fn needs_all(line: &Line) -> bool
 }
 
 /// Answers a line; one that needs all to be executed is refused where executing lacked memory.
-fn answer_line<T: Timeline>(
+pub(crate) fn answer_line<T: Timeline>(
     replica: &mut Replica<T>,
     alloc: Global,
     line: Line,

@@ -1,10 +1,10 @@
 //! What no clause says of rooms: that with ample memory each call does what it may, on worked rows of the program `twice`.
-use crate::{ClientId, Room, Unheard, Worked};
+use crate::{ClientId, Input, Keeping, Outcome, Room, Sent, Unheard, Unsent, Worked};
 use std::alloc::Global;
 use std::fmt::Debug;
 use std::process::Abort;
 use warp_line::{Plain, Timeline};
-use warp_record::{Line, Query, Record, Reply};
+use warp_record::{Count, Line, Query, Record, Refusal, Reply};
 use warp_replica::Replica;
 use warp_step::Program;
 use warp_tag::Tag;
@@ -13,11 +13,19 @@ use warp_watch::{Question, Told};
 /// The query for the total of `twice`.
 const TOTAL: Line = Line::Ask(Query::Var(0));
 
+/// How many inputs of an origin are taken at a time.
+const MOST_INPUTS: u32 = 2;
+
+/// A tag.
+fn tag(rt: &impl Abort, time: u64, micro: u32) -> Tag {
+    Tag::new(time, micro).expect(rt, "a tag")
+}
+
 /// An event of origin 0 doubles the total and adds its value, one of origin 1 subtracts its value.
 fn event(rt: &impl Abort, origin: u32, time: u64, value: i64) -> Line {
     Line::Put(Record::Event {
         origin,
-        tag: Tag::new(time, 0).expect(rt, "a tag"),
+        tag: tag(rt, time, 0),
         input: origin,
         value,
     })
@@ -69,11 +77,22 @@ fn none<T: Timeline>(rt: &impl Abort, room: &mut Room<T>, limit: u32) {
     assert!(rt; is_none);
 }
 
-/// The next answer is this client's, and this.
+/// The next answer is this client's, and this reply.
 fn hand<T: Timeline>(rt: &impl Abort, room: &mut Room<T>, limit: u32, who: ClientId, reply: Reply) {
+    comes_to(rt, room, limit, who, Outcome::Replied(reply));
+}
+
+/// The next answer is this client's, and this.
+fn comes_to<T: Timeline>(
+    rt: &impl Abort,
+    room: &mut Room<T>,
+    limit: u32,
+    who: ClientId,
+    outcome: Outcome,
+) {
     let one = room.hand(limit).expect(rt, "an answer");
     same(rt, &one.who, &who);
-    same(rt, &one.answer.reply, &reply);
+    same(rt, &one.answer.outcome, &outcome);
 }
 
 /// The clients have their turns, a query waits until all is executed, and answers until they may be handed on.
@@ -140,6 +159,134 @@ fn told_and_handed<T: Timeline>(rt: &impl Abort, alloc: Global, room: &mut Room<
     same(rt, &list.len(), &1);
 }
 
+/// A line of the client is heard, and comes to this.
+fn asks<T: Timeline>(
+    rt: &impl Abort,
+    alloc: Global,
+    room: &mut Room<T>,
+    who: ClientId,
+    line: Line,
+    outcome: Outcome,
+) {
+    hear(rt, room, who, line, Ok(()));
+    let _worked = room.work(alloc, 1, 8);
+    comes_to(rt, room, 9, who, outcome);
+}
+
+/// The announcement of origin 0 up to a time, with so many events.
+fn announces(rt: &impl Abort, time: u64, events: u32) -> Line {
+    Line::Put(Record::Announce {
+        origin: 0,
+        tag: tag(rt, time, 0),
+        events: Count::new(events).expect(rt, "a count"),
+        withdrawn: Count::new(0).expect(rt, "a count"),
+    })
+}
+
+/// A record was taken at this place.
+fn taken(place: u32) -> Outcome {
+    Outcome::Replied(Reply::Taken(place))
+}
+
+/// The input of origin 0 with this number is sent, with this time for the asked tag.
+fn send<T: Timeline>(
+    rt: &impl Abort,
+    alloc: Global,
+    room: &mut Room<T>,
+    input: u32,
+    time: u64,
+) -> Result<Sent, Unsent> {
+    let input = Input {
+        origin: 0,
+        input,
+        value: 3,
+    };
+    room.send(alloc, input, tag(rt, time, 0), MOST_INPUTS)
+}
+
+/// An input was sent to this place, at this tag.
+fn sent(place: u32, tag: Tag) -> Result<Sent, Unsent> {
+    Ok(Sent { place, tag })
+}
+
+/// Records of a kept origin are kept out where they announce, come late or differ; what is there stays known.
+fn kept_out<T: Timeline>(rt: &impl Abort, alloc: Global, room: &mut Room<T>) {
+    let kept = Keeping::of(&[0]).expect(rt, "an origin");
+    same(rt, &room.keep(kept), &Ok(()));
+    let who = come(rt, alloc, room);
+    asks(rt, alloc, room, who, event(rt, 0, 5, 3), taken(1));
+    asks(rt, alloc, room, who, announces(rt, 6, 1), Outcome::Kept);
+    asks(rt, alloc, room, who, event(rt, 0, 5, 4), Outcome::Differs);
+    same(rt, &room.close(alloc, tag(rt, 6, 0)), &Ok(()));
+    same(rt, &room.len(), &2);
+    let known = Outcome::Replied(Reply::Known(1));
+    asks(rt, alloc, room, who, event(rt, 0, 5, 3), known);
+    asks(rt, alloc, room, who, event(rt, 0, 4, 3), Outcome::Late);
+    let gone = Line::Put(Record::Withdraw {
+        origin: 0,
+        tag: tag(rt, 5, 0),
+    });
+    asks(rt, alloc, room, who, gone, Outcome::Late);
+    asks(rt, alloc, room, who, event(rt, 0, 6, 3), taken(3));
+    asks(rt, alloc, room, who, event(rt, 1, 1, 1), taken(4));
+}
+
+/// With all kept, one closing of each origin brings the horizon to its tag, and one up to the same tag changes nothing.
+fn closed<T: Timeline>(rt: &impl Abort, alloc: Global, room: &mut Room<T>) {
+    same(rt, &room.keep(Keeping::All), &Ok(()));
+    let who = come(rt, alloc, room);
+    asks(rt, alloc, room, who, event(rt, 1, 2, 7), taken(1));
+    same(rt, &room.close(alloc, tag(rt, 9, 0)), &Ok(()));
+    same(rt, &room.close(alloc, tag(rt, 9, 0)), &Ok(()));
+    same(rt, &room.len(), &3);
+    let horizon = Outcome::Replied(Reply::Horizon {
+        log: 3,
+        tag: tag(rt, 9, 0),
+    });
+    asks(rt, alloc, room, who, Line::Ask(Query::Horizon), horizon);
+}
+
+/// Inputs get the first free microstep of the first open time, so many at a time, and of kept origins alone.
+fn stamped<T: Timeline>(rt: &impl Abort, alloc: Global, room: &mut Room<T>) {
+    same(rt, &send(rt, alloc, room, 0, 4), &Err(Unsent::NotKept));
+    same(rt, &room.keep(Keeping::All), &Ok(()));
+    same(rt, &send(rt, alloc, room, 0, 4), &sent(1, tag(rt, 4, 0)));
+    same(rt, &send(rt, alloc, room, 0, 4), &sent(2, tag(rt, 4, 1)));
+    same(rt, &send(rt, alloc, room, 0, 4), &Err(Unsent::Crowded));
+    same(rt, &room.close(alloc, tag(rt, 7, 1)), &Ok(()));
+    same(rt, &send(rt, alloc, room, 0, 4), &sent(5, tag(rt, 7, 1)));
+    same(rt, &send(rt, alloc, room, 0, 4), &Err(Unsent::Crowded));
+    let refused = send(rt, alloc, room, 9, 8);
+    same(rt, &refused, &Err(Unsent::Refused(Refusal::NoInput)));
+    same(rt, &room.len(), &5);
+}
+
+/// What a journal broke or doubled is not kept.
+fn not_kept<T: Timeline>(rt: &impl Abort, alloc: Global, room: &mut Room<T>) {
+    let who = come(rt, alloc, room);
+    asks(rt, alloc, room, who, event(rt, 1, 5, 3), taken(1));
+    asks(rt, alloc, room, who, event(rt, 1, 5, 4), taken(2));
+    same(rt, &room.keep(Keeping::All), &Err(1));
+    asks(rt, alloc, room, who, announces(rt, 6, 0), taken(3));
+    asks(rt, alloc, room, who, event(rt, 0, 5, 3), taken(4));
+    same(rt, &room.keep(Keeping::All), &Err(0));
+}
+
+/// The rows of kept origins, each over a room of its own.
+fn kept<T: Timeline + Drop>(rt: &impl Abort, alloc: Global) {
+    let mut one = room::<T>(rt, alloc);
+    kept_out(rt, alloc, &mut one);
+    drop(one);
+    let mut other = room::<T>(rt, alloc);
+    closed(rt, alloc, &mut other);
+    drop(other);
+    let mut third = room::<T>(rt, alloc);
+    stamped(rt, alloc, &mut third);
+    drop(third);
+    let mut last = room::<T>(rt, alloc);
+    not_kept(rt, alloc, &mut last);
+}
+
 /// The rows, each over a room of its own.
 fn rows<T: Timeline + Drop>(rt: &impl Abort, alloc: Global) {
     let mut one = room::<T>(rt, alloc);
@@ -159,6 +306,11 @@ fn questions<T: Timeline + Drop>(rt: &impl Abort, alloc: Global) {
 #[test]
 fn turns_answers_and_clients(rt: HostRuntime) {
     rows::<Plain>(&rt, rt.alloc());
+}
+
+#[test]
+fn kept_origins(rt: HostRuntime) {
+    kept::<Plain>(&rt, rt.alloc());
 }
 
 #[test]

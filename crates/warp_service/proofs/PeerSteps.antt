@@ -9,10 +9,10 @@ use Rattle.warp_tag.specs.Limits.{longest_line}
 use Rattle.warp_record.specs.Lines.{ended, first_end, is_end}
 use Rattle.warp_record.specs.Lines.Piece.{Whole, Long}
 use Rattle.warp_record.specs.Record.{record_spelling}
-use Rattle.warp_hub.specs.Follow.{Counts, FollowState, Hears as HearsLine, HearsPiece}
+use Rattle.warp_hub.specs.Follow.{Counts, FollowState, Hears as HearsLine, HearsPiece, PlacesBehind}
 use Rattle.warp_hub.specs.declared.follow.PeerEvent.{PeerEvent}
 use Rattle.warp_hub.specs.declared.follow.Phase.{Phase}
-use Rattle.warp_hub.specs.declared.follow.Phase.TheVariants.{Over as NotDue}
+use Rattle.warp_hub.specs.declared.follow.Phase.TheVariants.{Over as NotDue, Token, Program, Check, Watch, Pushed, Asked, Level}
 use Rattle.warp_service.specs.declared.contact.Contact.{Contact}
 use Rattle.warp_service.specs.declared.news.NewsOfPeer.{NewsOfPeer}
 use Rattle.warp_service.specs.declared.contact.Due.TheVariants.{Nothing, Try, Question}
@@ -58,9 +58,21 @@ goes_silent step f f' h h' silent does lines = record {
   hands = lines ∙ sym (append-nil h) ∙ ap (λ l. h ++ l) (sym silent);
 }
 
+places_same : (phase : Phase) (next missing next' missing' : ℕ) → (next' ≡ next) × (missing' ≡ missing)
+    → PlacesBehind phase next missing next' missing'
+places_same NotDue next missing next' missing' same = same
+places_same (Token is_told) next missing next' missing' same = same
+places_same Program next missing next' missing' same = same
+places_same (Check is_host) next missing next' missing' same = inl same
+places_same Watch next missing next' missing' same = same
+places_same Pushed next missing next' missing' same = same
+places_same Asked next missing next' missing' same = same
+places_same Level next missing next' missing' same = same
+
 -- what is asked or begun changes no place
 pub goes_same : (f f' : FollowState) (h h' : List ℕ) → f'.next ≡ f.next → f'.missing ≡ f.missing → h' ≡ h → Goes f f' h h'
-goes_same f f' h h' next missing lines = goes_silent Spoke f f' h h' refl (λ _. (next, missing)) lines
+goes_same f f' h h' next missing lines =
+    goes_silent Spoke f f' h h' refl (places_same f.phase f.next f.missing f'.next f'.missing (next, missing)) lines
 
 -- what a line is heard as
 goes_line : (f f' : FollowState) (line h h' : List ℕ) (event : Option PeerEvent) → HearsLine f line h event f' h' → Goes f f' h h'
@@ -70,7 +82,7 @@ goes_line f f' line h h' event (inl hands) = record {
   hands = hands.2 ∙ ap (λ l. h ++ l) (sym (append-nil (record_spelling hands.0 ++ 10 ∷ [])));
 }
 goes_line f f' line h h' event (inr none) =
-    goes_silent Spoke f f' h h' refl (λ due. ((none.1 due).0, (none.1 due).1)) none.0
+    goes_silent Spoke f f' h h' refl none.4 none.0
 
 within : (b : Bool) (line : List ℕ) → b ≡ true → (if b then Whole line else Long) ≡ Whole line
 within true line h = refl

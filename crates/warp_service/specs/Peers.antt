@@ -5,7 +5,7 @@ use Rattle.warp_record.specs.declared.record.Record.{Record}
 use Rattle.warp_record.specs.Record.{record_spelling}
 use Rattle.std.specs.List.{before_first, starts_with}
 use Rattle.warp_record.specs.Lines.{ended, first_end, is_end, kept_of}
-use Rattle.warp_hub.specs.Follow.{FollowState, HearsPiece, TellsRecord, follows, unconnected}
+use Rattle.warp_hub.specs.Follow.{FollowState, HearsPiece, PlacesBehind, TellsRecord, follows, unconnected}
 use Rattle.warp_hub.specs.declared.follow.PeerEvent.{PeerEvent}
 use Rattle.warp_hub.specs.declared.follow.Phase.TheVariants.{Over as NotDue}
 use Rattle.warp_service.specs.declared.comparing.Compared.{Compared}
@@ -42,14 +42,14 @@ pub data FollowStep : Type 0 where
   Returned : FollowStep
   Spoke : FollowStep
 
--- what a step does to the place that comes next and to how many before it were not answered. What is said where no records
--- are due may begin anew: then nothing is said of the places
+-- what a step does to the place that comes next and to how many before it were not answered. What else is said leaves both; but
+-- behind the record that was had last the peer's log may be another, and the first place comes next
 abbrev pub FollowDoes : FollowStep → FollowState → FollowState → Type 0
 FollowDoes (Told said) f f' =
     ((line : List ℕ) × TellsRecord f.form f.phase f.next line said) × (f'.next ≡ f.next + 1) × (f'.missing ≡ f.missing + 1)
 FollowDoes Answered f f' = (0 < f.missing) × (f'.next ≡ f.next) × (f'.missing ≡ f.missing - 1)
 FollowDoes Returned f f' = (f'.next ≡ f.next - f.missing) × (f'.missing ≡ 0)
-FollowDoes Spoke f f' = IsTrue (follows f.phase) → (f'.next ≡ f.next) × (f'.missing ≡ f.missing)
+FollowDoes Spoke f f' = PlacesBehind f.phase f.next f.missing f'.next f'.missing
 
 -- steps, one after another
 abbrev pub FollowRuns : List FollowStep → FollowState → FollowState → Type 0

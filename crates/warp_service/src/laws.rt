@@ -6,6 +6,7 @@ ghost use Rattle.warp_service.specs.declared.contact.Contact.{Contact};
 ghost use Rattle.warp_service.specs.declared.contact.Due.{Due};
 ghost use Rattle.warp_service.specs.declared.contact.Way.{Way};
 ghost use Rattle.warp_hub.specs.Follow.{FollowState, follows, unconnected};
+ghost use Rattle.warp_hub.specs.declared.follow.Phase.{Phase};
 ghost use Rattle.warp_record.specs.declared.record.Record.{Record};
 ghost use Rattle.warp_service.specs.Peers.{FollowDoes, FollowStep, Hears, Opens, PeerState, first_open, with_end, with_found};
 ghost use Rattle.warp_service.specs.News.{TellsNews, news_pause};
@@ -62,7 +63,8 @@ pub fn lines_apart()
 {}
 
 /// The place that is asked for where a connection begins is that of the first record that was not answered; and that place
-/// moves by one with each answer, and by nothing else that happens where records are due.
+/// moves by one with each answer, and by nothing else that happens where records are due. Where none are, it becomes the first
+/// one behind the record that was had last, where the peer's log is another; and nothing else moves it.
 pub fn places_are_kept()
     ensures begun { (f : FollowState) → ((unconnected f).next ≡ first_open f) × (first_open (unconnected f) ≡ first_open f) }
     ensures told { (said : Record) (f after : FollowState) → FollowDoes (FollowStep.Told said) f after →
@@ -73,6 +75,9 @@ pub fn places_are_kept()
         (first_open after ≡ first_open f) × (after.next ≡ first_open f) }
     ensures spoke { (f after : FollowState) → FollowDoes FollowStep.Spoke f after → IsTrue (follows f.phase) →
         (first_open after ≡ first_open f) × (after.next ≡ f.next) }
+    ensures anew { (f after : FollowState) → FollowDoes FollowStep.Spoke f after →
+        ((first_open after ≡ first_open f) × (after.next ≡ f.next))
+        ⊎ ((first_open after ≡ 1) × (after.next ≡ 1) × ((is_host : Bool) × (f.phase ≡ Phase.Check is_host))) }
 {}
 
 /// What calls do to the way to a peer is events: what is heard, that an address was found, that a connection is there or has

@@ -208,7 +208,7 @@ block_in_order [] n block l is ordered = absurd (omega arith)
 block_in_order (b ∷ blocks) zero block l is ordered = subst AreInOrder (sym is) (in_order-left b (all_of blocks) ordered)
 block_in_order (b ∷ blocks) (suc n) block l is ordered = block_in_order blocks n block (omega arith) is (in_order-right b (all_of blocks) ordered)
 
-none_any : (tag : Moment) (xs : List Tally) → list_any (λ c. is_before tag c.tag) xs ≡ false → All (λ c. is_before tag c.tag ≡ false) xs
+pub none_any : (tag : Moment) (xs : List Tally) → list_any (λ c. is_before tag c.tag) xs ≡ false → All (λ c. is_before tag c.tag ≡ false) xs
 none_any tag [] h = λ k d l. absurd (omega arith)
 none_any tag (x ∷ xs) h = elim (cases_Bool (is_before tag x.tag)) [
   | inl b ↦ absurd (let q = rw b at h in cc)

@@ -32,7 +32,7 @@ use Rattle.warp_table.proofs.Sets.{same_tag}
 -- So many names
 
 -- tags in order are that many
-listed_once : (are : Moment → Type 0) (tags : List Moment) → AreAscending tags → ((tag : Moment) → Contains tags tag ↔ are tag) → AreSoMany (length tags) are
+pub listed_once : (are : Moment → Type 0) (tags : List Moment) → AreAscending tags → ((tag : Moment) → Contains tags tag ↔ are tag) → AreSoMany (length tags) are
 listed_once are tags ascending each = (tags, λ i j d before within. apart (get_or tags i d) (get_or tags j d) (ascending i j d before within), each, refl)
 
 module _ (S : Records) (origin : ℕ) (heard : Heard) (h : IsHeard S origin heard) where
@@ -77,7 +77,7 @@ none_in_last items (b ∷ c ∷ bs) d some none kept =
 
 -- something is known of a name exactly if a record of it is there
 module _ (records : List Record) (names : List (Name × Known)) (h : KeepsNames records (entries_of records names)) (origin : ℕ) where
-  told : (tag : Moment) → Tells (set_of records) origin tag (option_map (entry_of records (record { origin = origin; tag = tag })) (lookup (is_named origin tag) names))
+  pub told : (tag : Moment) → Tells (set_of records) origin tag (option_map (entry_of records (record { origin = origin; tag = tag })) (lookup (is_named origin tag) names))
   told tag = subst (Tells (set_of records) origin tag) (looked_up records (record { origin = origin; tag = tag }) names) (h.each origin tag)
 
   known_has : (tag : Moment) (found : Option Known) → is_some found ≡ true

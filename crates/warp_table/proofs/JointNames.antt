@@ -12,6 +12,7 @@ use Rattle.warp_tag.specs.Moment.{Moment, is_before}
 use Rattle.warp_record.specs.declared.record.Record.{Record}
 use Rattle.warp_record.specs.declared.record.Record.TheVariants as said_of
 use Rattle.warp_table.specs.Announced.{beginning}
+use Rattle.warp_table.specs.Closed.{AreJointCountsBefore, AreSoManyNames}
 use Rattle.warp_table.specs.Joint.{AtLeastNames, all_events_below, all_withdrawals_below}
 use Rattle.warp_table.specs.Names.{HasEvent, HasWithdrawal}
 use Rattle.warp_table.specs.Records.{set_of}
@@ -156,22 +157,30 @@ at_least_listed are names differ each count = (there, back)
 -- what is heard of an origin's names of a kind, by what these are
 module _ (kind : EventOrWithdrawal) (heards : List Heard) (is : ℕ → Moment → Type 0) (ascending : (origin : ℕ) → AreAscending (tags_of kind (heard_at heards origin)))
     (each : (origin : ℕ) (tag : Moment) → Contains (tags_of kind (heard_at heards origin)) tag ↔ is origin tag) where
+  -- so many names are before an end as tags are
+  so_many_tags : (end : Moment) → AreSoManyNames (count_before end (all_tags kind heards)) (λ name. IsTrue (is_before name.1 end) × is name.0 name.1)
+  so_many_tags end =
+      let before : Moment → Bool = (λ t. is_before t end) in
+      let names : List (ℕ × Moment) = names_in kind before 0 heards in (
+        names,
+        names_in_apart kind before 0 heards ascending,
+        (λ name. (
+          λ has. (
+              let from = from_names_in kind before 0 heards name has in
+              let at : from.0 ≡ name.0 = omega (arith, from.1) in
+              (from.3, (each name.0 name.1).0 (subst (λ (o : ℕ). Contains (tags_of kind (heard_at heards o)) name.1) at from.2))
+              ),
+          λ h. to_names_in kind before 0 heards name.0 name.0 name.1 (omega arith) ((each name.0 name.1).1 h.1) h.0,
+        )),
+        length-names_in kind before 0 heards,
+      )
+
   -- so many names at least are before an end exactly if so many tags are
   at_least_tags : (end : Moment) (count : ℕ) → AtLeastNames count (λ name. IsTrue (is_before name.1 end) × is name.0 name.1) ↔ (count ≤ count_before end (all_tags kind heards))
   at_least_tags end count =
-      let before : Moment → Bool = (λ t. is_before t end) in
-      let names : List (ℕ × Moment) = names_in kind before 0 heards in
-      let same : length names ≡ count_before end (all_tags kind heards) = length-names_in kind before 0 heards in
-      let told = at_least_listed (λ name. IsTrue (is_before name.1 end) × is name.0 name.1) names (names_in_apart kind before 0 heards ascending)
-      (λ name. (
-        λ has. (
-            let from = from_names_in kind before 0 heards name has in
-            let at : from.0 ≡ name.0 = omega (arith, from.1) in
-            (from.3, (each name.0 name.1).0 (subst (λ (o : ℕ). Contains (tags_of kind (heard_at heards o)) name.1) at from.2))
-            ),
-        λ h. to_names_in kind before 0 heards name.0 name.0 name.1 (omega arith) ((each name.0 name.1).1 h.1) h.0,
-      )) count in
-      (λ h. (let few = told.0 h in omega (arith, few, same)), λ h. told.1 (omega (arith, h, same)))
+      let so = so_many_tags end in
+      let told = at_least_listed (λ name. IsTrue (is_before name.1 end) × is name.0 name.1) so.0 so.1 so.2 count in
+      (λ h. (let few = told.0 h in omega (arith, few, so.3)), λ h. told.1 (omega (arith, h, so.3)))
 
   filter_all : (tags : List Moment) → length (filter (λ t. true) tags) ≡ length tags
   filter_all [] = refl
@@ -206,6 +215,16 @@ module _ (records : List Record) (heards : List Heard) (heard : AreHeard records
 
   pub withdrawals_counted : (end : Moment) (count : ℕ) → AtLeastNames count (all_withdrawals_below (set_of records) end) ↔ (count ≤ count_before end (all_tags Withdrawal heards))
   withdrawals_counted = at_least_tags Withdrawal heards (λ origin tag. HasWithdrawal (set_of records) origin tag) (λ origin. (heard.each origin).ordered_withdrawn) (λ origin. (heard.each origin).withdrawn)
+
+  -- so many names are before an end, of those that have an event and of those that have a withdrawal
+  events_before : (end : Moment) → AreSoManyNames (count_before end (all_tags Event heards)) (all_events_below (set_of records) end)
+  events_before = so_many_tags Event heards (λ origin tag. (payload : ℕ × ℤ) × HasEvent (set_of records) origin tag payload) (λ origin. (heard.each origin).ordered_events) (λ origin. (heard.each origin).events)
+
+  withdrawals_before : (end : Moment) → AreSoManyNames (count_before end (all_tags Withdrawal heards)) (all_withdrawals_below (set_of records) end)
+  withdrawals_before = so_many_tags Withdrawal heards (λ origin tag. HasWithdrawal (set_of records) origin tag) (λ origin. (heard.each origin).ordered_withdrawn) (λ origin. (heard.each origin).withdrawn)
+
+  pub joint_counts : (end : Moment) → AreJointCountsBefore (set_of records) end (count_before end (all_tags Event heards)) (count_before end (all_tags Withdrawal heards))
+  joint_counts end = record { events = events_before end; withdrawn = withdrawals_before end }
 
   pub few_events : length (all_tags Event heards) ≤ length records
   few_events =

@@ -40,3 +40,5 @@ pub mod JointHorizons
 pub mod SomeJoint
 pub mod NoRecords
 pub mod CountedNames
+pub mod LastTags
+pub mod ClosedTags

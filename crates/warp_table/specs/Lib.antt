@@ -7,4 +7,5 @@ pub mod Joint
 pub mod Announced
 pub mod Horizons
 pub mod NameCounts
+pub mod Closed
 pub mod inner

@@ -6,3 +6,4 @@ pub mod Tally
 pub mod NamesByOrigin
 pub mod Joint
 pub mod News
+pub mod Closed

@@ -8,6 +8,7 @@ ghost use Rattle.std.specs.Prelude.{◌≡◌, ◌+◌, ◌<◌, ◌≤◌, ◌^
 ghost use Rattle.std.specs.Prelude.{get_or, length, map, take, true};
 ghost use Rattle.std.specs.List.{insert, list_any};
 ghost use Rattle.warp_tag.specs.Moment.{is_before};
+ghost use Rattle.warp_table.specs.inner.Closed.{IsLastTag};
 ghost use Rattle.warp_table.specs.inner.Tally.{AreInOrder, AreSome, IsJudged, IsSpared, all_of, before_of, beyond};
 ghost use Rattle.warp_table.specs.inner.Tally.{counted, fits, judged_in, no_names, place_of, with_more, with_name};
 ghost use Rattle.warp_table.specs.inner.Tally.{with_tally};
@@ -167,6 +168,17 @@ impl Block {
         match self.tallies.last() {
             Some(last) => tag.is_before(last.tag),
             None => false,
+        }
+    }
+
+    /// The greatest tag of them, which the last one has; the beginning where there is none.
+    fn last(&self) -> Tag
+        requires { AreInOrder self.now }
+        ensures { IsLastTag (map (λ t. t.tag) self.now) result }
+    {
+        match self.tallies.last() {
+            Some(last) => last.tag,
+            None => Tag::default(),
         }
     }
 
@@ -421,6 +433,17 @@ impl Announcements {
         match self.blocks.last() {
             Some(block) => !block.has_beyond(tag),
             None => true,
+        }
+    }
+
+    /// The greatest tag of them, which the last one has; the beginning where there is none.
+    pub(crate) fn last(&self) -> Tag
+        requires { AreInOrder self.now }
+        ensures { IsLastTag (map (λ t. t.tag) self.now) result }
+    {
+        match self.blocks.last() {
+            Some(block) => block.last(),
+            None => Tag::default(),
         }
     }
 

@@ -2,14 +2,15 @@
 //!
 //! Each announcement has how many names are before its tag. A new name is counted in the announcements beyond it
 //! (`announced.rt`), so that what comes in order of tag costs no pass over what came before.
-ghost use Rattle.std.specs.Prelude.{◌≡◌, ◌↔◌, ◌⊎◌, Contains, IfOk, IsTrue, OnOk, OnErr, false, length};
+ghost use Rattle.std.specs.Prelude.{◌≡◌, ◌↔◌, ◌⊎◌, Contains, IfOk, IsTrue, OnOk, OnErr, false, length, map};
+ghost use Rattle.warp_table.specs.inner.Closed.{IsLastTag};
 ghost use Rattle.warp_table.specs.inner.Heard.{Announced, IsExceeded, IsHeardTo, earlier_of, nothing_heard};
 ghost use Rattle.warp_table.specs.inner.Heard.{count_before as tags_before, with_tag};
 ghost use Rattle.warp_table.specs.inner.Tally.{tags_of, with_noted};
 
 use crate::announced::Announcements;
 use crate::tag_log::TagLog;
-use crate::tally::{EventOrWithdrawal, Tally, Verdict};
+use crate::tally::{EventOrWithdrawal, Numbers, Tally, Verdict};
 use std::alloc::{AllocError, Global};
 use std::marker::Model;
 use warp_tag::Tag;
@@ -170,6 +171,24 @@ impl Announcer {
             EventOrWithdrawal::Event => self.events.count_before(tag),
             EventOrWithdrawal::Withdrawal => self.withdrawn.count_before(tag),
         }
+    }
+
+    /// How many of its names are before the tag. They stay.
+    pub(crate) fn counts_before(&mut self, tag: Tag) -> Result<Numbers, AllocError>
+        ensures same { self.new ≡ self.old }
+        ensures events { IfOk result (λ counts. counts.events ≡ tags_before tag self.old.events) }
+        ensures withdrawn { IfOk result (λ counts. counts.withdrawn ≡ tags_before tag self.old.withdrawn) }
+    {
+        let events = self.count_before(EventOrWithdrawal::Event, tag)?;
+        let withdrawn = self.count_before(EventOrWithdrawal::Withdrawal, tag)?;
+        Ok(Numbers { events, withdrawn })
+    }
+
+    /// The greatest tag that it announced, the beginning where it announced none.
+    pub(crate) fn last_announced(&self) -> Tag
+        ensures { IsLastTag (map (λ a. a.tag) self.now.announced) result }
+    {
+        self.announced.last()
     }
 
     /// The least tag of a name of two payloads; `None` where there is none.

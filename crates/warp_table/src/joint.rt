@@ -3,8 +3,9 @@
 //! Each has how many names of all origins are before its tag: a new one asks each origin's `Announcer`, and a new name is
 //! counted in those beyond it, as in those of its own origin. So no tag of a name is kept twice, and a log without a joint
 //! announcement pays nothing.
-ghost use Rattle.std.specs.Prelude.{◌≡◌, ◌+◌, ◌<◌, ◌^◌, [], All, IfOk, IsTrue, OnErr, OnOk, false, length};
+ghost use Rattle.std.specs.Prelude.{◌≡◌, ◌+◌, ◌<◌, ◌^◌, [], All, IfOk, IsTrue, OnErr, OnOk, false, length, map};
 ghost use Rattle.warp_table.specs.Announced.{beginning};
+ghost use Rattle.warp_table.specs.inner.Closed.{IsLastTag};
 ghost use Rattle.warp_table.specs.inner.Heard.{count_before};
 ghost use Rattle.warp_table.specs.inner.Joint.{IsLeastOf, all_tags, counted_in, doubled_in};
 ghost use Rattle.warp_table.specs.inner.Joint.{earlier_some, joint_noted};
@@ -79,6 +80,14 @@ impl JointAnnouncer {
         Ok(())
     }
 
+    /// The greatest tag of one, the beginning where there is none.
+    pub(crate) fn last(&self) -> Tag
+        requires { AreInOrder self.now.announced }
+        ensures { IsLastTag (map (λ t. t.tag) self.now.announced) result }
+    {
+        self.announced.last()
+    }
+
     /// The greatest tag of one that is reached, the beginning where none is.
     pub(crate) fn reached(&self) -> Tag
         ensures { result ≡ self.now.verdict.reached }
@@ -113,7 +122,7 @@ fn count_all(
 }
 
 /// `count_all` of all that are kept.
-fn count_kept(
+pub(crate) fn count_kept(
     announcers: &mut Vec<Announcer>,
     kind: EventOrWithdrawal,
     tag: Tag,

@@ -9,6 +9,7 @@
 mod announced;
 mod announcer;
 mod blocks;
+mod closing;
 mod honest_law;
 mod joint;
 mod law;
@@ -21,6 +22,7 @@ mod tag_log;
 mod tags;
 mod tally;
 
+pub use closing::CountsBefore;
 pub use honest_law::{
     honest_within, horizon_of_both, horizon_without_joint, joint_tells, later_horizon, one_horizon,
     same_below, some_joint_reach, some_reach,

@@ -79,12 +79,12 @@ pub(crate) struct Parted {
 /// is reached. Joint announcements have one of their own.
 #[derive(Drop)]
 pub struct Table {
-    records: Vec<Record>,
-    names: Names,
+    pub(crate) records: Vec<Record>,
+    pub(crate) names: Names,
     /// Of announcements, and of the events of a name that has one with a greater payload.
     others: Others,
-    announcers: Vec<Announcer>,
-    joint: JointAnnouncer,
+    pub(crate) announcers: Vec<Announcer>,
+    pub(crate) joint: JointAnnouncer,
 }
 
 impl Model for Table {
@@ -351,7 +351,7 @@ impl Table {
 }
 
 /// The later one of two tags.
-fn later(one: Tag, other: Tag) -> Tag
+pub(crate) fn later(one: Tag, other: Tag) -> Tag
     ensures { result ≡ later one other }
 {
     if one.is_before(other) { other } else { one }
@@ -390,7 +390,7 @@ pub(crate) fn stands(records: &[Record], place: u32, record: &Record) -> bool
 }
 
 /// What is known of the name.
-fn entry_of(records: &[Record], name: &Name, known: &Known) -> Entry
+pub(crate) fn entry_of(records: &[Record], name: &Name, known: &Known) -> Entry
     ensures { result ≡ entry_of records.now name.now known.now }
 {
     Entry {

@@ -88,14 +88,15 @@ abbrev pub trace_command : App
 trace_command = with_rule (with_rule (new_app (codes "trace")) (wanted_word (codes "PROGRAM"))) (flag (codes "steps"))
 
 -- `host` with PROGRAM, `--listen`, `--clients`, `--tokens`, `--allow-origin`, `--peer`, `--peer-tokens`, `--open`,
--- `--until-input-ends`, `--operator`, `--journal` and `--sync`
+-- `--until-input-ends`, `--operator`, `--journal`, `--sync` and `--site`
 abbrev pub host_command : App
 host_command =
-    with_rule (with_rule (with_rule (with_rule (with_rule (with_rule (with_rule (with_rule (with_rule (with_rule (with_rule (with_rule (new_app (codes "host"))
+    with_rule (with_rule (with_rule (with_rule (with_rule (with_rule (with_rule (with_rule (with_rule (with_rule (with_rule (with_rule (with_rule (new_app (codes "host"))
     (wanted_word (codes "PROGRAM"))) (further_word (codes "listen"))) (further_number (codes "clients") most_clients))
     (further_word (codes "tokens"))) (further_words (codes "allow-origin"))) (further_words (codes "peer")))
     (further_word (codes "peer-tokens"))) (flag (codes "open"))) (flag (codes "until-input-ends")))
-    (flag (codes "operator"))) (further_word (codes "journal"))) (further_word (codes "sync"))
+    (flag (codes "operator"))) (further_word (codes "journal"))) (further_word (codes "sync")))
+    (further_word (codes "site"))
 
 -- `journal` with ACTION and FILE
 abbrev pub journal_command : App
@@ -116,7 +117,7 @@ warpd_command =
 -- what a host is asked for: the program of this name, where to listen, how many clients there may be at a time, the file of
 -- tokens, the origins of pages that may connect, the peers, the file of tokens for peers, whether any address may be listened
 -- on without tokens, whether the host ends with its standard input, whether that has words of its operator, the file of the
--- journal, and when that is brought to the disk
+-- journal, when that is brought to the disk, and the folder of its site
 pub record HostTask : Type 0 where
   pub program : Text
   pub listen : Option Text
@@ -130,6 +131,7 @@ pub record HostTask : Type 0 where
   pub operator : Bool
   pub journal : Option Text
   pub sync : Option Text
+  pub site : Option Text
 
 -- what the words may ask for: to run the program of this name; or over the program of the first name to play the schedule of
 -- the second; or to serve the program of this name at a port, for so many sessions, to tell how pulls ended or not, to bear so many
@@ -215,6 +217,7 @@ host_task found = option_map (λ program. HostProgram (record {
   operator = is_set (codes "operator") found;
   journal = first_of (codes "journal") found;
   sync = first_of (codes "sync") found;
+  site = first_of (codes "site") found;
 })) (first_of (codes "PROGRAM") found)
 
 -- what `journal` asks for, of what was found for it: the words in the places of ACTION and FILE
@@ -262,6 +265,7 @@ task_of (Host job) = HostProgram (record {
   operator = job.operator;
   journal = option_map (λ word. word.now) job.journal;
   sync = option_map (λ word. word.now) job.sync;
+  site = option_map (λ word. word.now) job.site;
 })
 task_of (Journal action file) = SeeJournal action.now file.now
 

@@ -10,7 +10,9 @@ ghost use Rattle.warp_words.specs.Words.{IsInRange, all_of_or_none, number_found
 ghost use Rattle.warp_words.specs.Words.{check_options, check_task, host_task, is_set, journal_task, serve_task, trace_task};
 ghost use Rattle.warp_words.specs.Words.{top_command, warpd_command};
 
-use crate::{check_help, host_help, journal_help, play_help, run_help, serve_help, trace_help};
+use crate::{
+    check_help, host_help, journal_help, play_help, run_help, serve_help, top_help, trace_help,
+};
 use clap::builder::ValueParser;
 use clap::{Arg, ArgAction, ArgMatches, Command, Error};
 use std::alloc::{AllocError, Global};
@@ -97,6 +99,8 @@ pub struct HostJob<'a> {
     pub journal: Option<&'a str>,
     /// The word that says when the journal is brought to the disk.
     pub sync: Option<&'a str>,
+    /// The word that names the folder of its site.
+    pub site: Option<&'a str>,
 }
 
 /// What `check` tells beside the line of what is in a program.
@@ -117,21 +121,6 @@ pub struct CheckOptions {
 }
 
 const VERSION: &str = "1.2.0";
-
-const ABOUT: &str = "Runs a deterministic reactor program over events that may come late";
-
-const LONG_ABOUT: &str = "\
-warpd runs a deterministic reactor program. Events may come late and in any order: each
-answer is that of the program run over all of them in the order of their tags.";
-
-const STATUSES: &str = "\
-Exit status:
-  0  done, or help or the version was asked for
-  2  the words were not understood, or ask for too many lanes
-  3  the program or the schedule was refused
-  4  the program or the schedule couldn't be read, or a standard stream failed
-  5  memory ran out
-  6  the server couldn't listen, or couldn't have a further connection or thread";
 
 const PROGRAM: &str = "PROGRAM";
 
@@ -186,6 +175,8 @@ const OPERATOR: &str = "operator";
 const JOURNAL_OPTION: &str = "journal";
 
 const SYNC: &str = "sync";
+
+const SITE: &str = "site";
 
 const ACTION: &str = "ACTION";
 
@@ -437,6 +428,11 @@ const HOST: Subcommand = Subcommand {
             help: host_help::SYNC_HELP,
             kind: PartKind::FurtherWord { value: "WHEN" },
         },
+        Part {
+            name: SITE,
+            help: host_help::SITE_HELP,
+            kind: PartKind::FurtherWord { value: "FOLDER" },
+        },
     ],
 };
 
@@ -631,6 +627,7 @@ fn host_job<'a>(alloc: Global, found: &ArgMatches<'a>) -> Result<Option<Job<'a>>
         operator: is_set(found, OPERATOR),
         journal: text(found, JOURNAL_OPTION),
         sync: text(found, SYNC),
+        site: text(found, SITE),
     })))
 }
 
@@ -711,7 +708,7 @@ fn top<'a>(alloc: Global) -> Command<'a>
         about,
         long_about,
         notes,
-    } = top_help();
+    } = top_help::help();
     Command::new(alloc, "warpd")
         .version(VERSION)
         .about(about)
@@ -747,15 +744,6 @@ fn help_on(topic: &Topic) -> Help {
         Topic::Trace => trace_help::help(),
         Topic::Host => host_help::help(),
         Topic::Journal => journal_help::help(),
-    }
-}
-
-/// The texts on `warpd`.
-fn top_help() -> Help {
-    Help {
-        about: ABOUT,
-        long_about: LONG_ABOUT,
-        notes: STATUSES,
     }
 }
 

@@ -30,8 +30,9 @@ out, and counted: `* skipped N`. A client for which more than a mebibyte
 waits is told `* gone slow` and closed.
 
 Over HTTP: / (a page), /program.json, /names.json, /healthz, /readyz (503 and why not), and
-/metrics for Prometheus. A page of a browser has to be the host's own, or be allowed by
---allow-origin.
+/metrics for Prometheus. With --site the files of a folder, as they are at the start, are below
+/site/, index.html at /site/: a game's own page needs no other server. A page of a browser has to
+be the host's own, or be allowed by --allow-origin.
 
 With --journal the log is kept in a file, which is text, and read again at the next start. With
 --sync always nothing is told of a record before it is on the disk; with a number of MILLISECONDS,
@@ -56,7 +57,7 @@ it open, and makes words of signals.";
 
 const NOTES: &str = "\
 With --tokens each line of the file is `TOKEN *`, `TOKEN read` or `TOKEN ORIGIN[,ORIGIN]..`, and
-a client says `token T` first, or connects to /ws?token=T; HTTP but /, /healthz and /readyz wants
+a client says `token T` first, or connects to /ws?token=T; HTTP but /, /site/, /healthz and /readyz wants
 the header `Authorization: Bearer T`. A record for another origin is `refused 13`. The file must not
 be one that others may read. Without tokens only an address of this machine may be listened on,
 unless --open says that another is meant. TLS is for a proxy in front.
@@ -93,6 +94,8 @@ pub(crate) const JOURNAL_HELP: &str = "Keep the log in this file: nothing that w
 
 pub(crate) const SYNC_HELP: &str =
     "When the journal is synced: always, never or MILLISECONDS up to 60000, always if not given";
+
+pub(crate) const SITE_HELP: &str = "Serve the files of this folder below /site/";
 
 /// The texts on `host`.
 pub(crate) fn help() -> Help {

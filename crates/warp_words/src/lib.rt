@@ -8,6 +8,7 @@ mod journal_help;
 mod play_help;
 mod run_help;
 mod serve_help;
+mod top_help;
 mod trace_help;
 
 pub use command_line::{CheckOptions, HostJob, Job, words};

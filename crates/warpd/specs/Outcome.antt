@@ -45,7 +45,7 @@ use Rattle.warp_session.specs.declared.desk_session.SessionEnd.{SessionEnd}
 use Rattle.warp_session.specs.declared.desk_session.SessionEnd.TheVariants.{End, ReadFault, WriteFault, TooManyReads, NoMemory}
 use Rattle.warpd.specs.Gathered.{lacks_memory}
 use Rattle.warpd.specs.declared.outcome.Outcome.{Outcome}
-use Rattle.warpd.specs.declared.outcome.Outcome.TheVariants.{Done, Words, TooManyLanes, NoAddress, NotOpen, TooManyPeers, NoPeer, NoOrigin, Program, Schedule, ShownTokens, BadTokens, NoTokens, NoAction, NoSync, JournalInUse, NoJournal, OtherJournal, DamagedJournal, RefusedJournal, LostJournal, NoProgram, NoSchedule, Input, Output, Memory, Listen, Accept}
+use Rattle.warpd.specs.declared.outcome.Outcome.TheVariants.{Done, Words, TooManyLanes, NoAddress, NotOpen, TooManyPeers, NoPeer, NoOrigin, Program, Schedule, ShownTokens, BadTokens, NoTokens, NoAction, NoSync, JournalInUse, NoJournal, OtherJournal, DamagedJournal, RefusedJournal, LostJournal, NoSite, LargeSite, NoProgram, NoSchedule, Input, Output, Memory, Listen, Accept}
 use Rattle.warpd.specs.declared.outcome.TokenFile.{TokenFile}
 use Rattle.warpd.specs.declared.outcome.TokenFile.TheVariants.{Clients, Peers}
 
@@ -72,6 +72,8 @@ status_of OtherJournal = 3
 status_of (DamagedJournal line) = 3
 status_of (RefusedJournal line) = 3
 status_of LostJournal = 4
+status_of NoSite = 4
+status_of LargeSite = 3
 status_of NoProgram = 4
 status_of NoSchedule = 4
 status_of Input = 4
@@ -118,6 +120,8 @@ told_line OtherJournal = codes "that is no journal of this program\n"
 told_line (DamagedJournal line) = codes "journal damaged at line " ++ decimal line ++ codes "\n"
 told_line (RefusedJournal line) = codes "journal refused at line " ++ decimal line ++ codes "\n"
 told_line LostJournal = codes "cannot write the journal\n"
+told_line NoSite = codes "cannot read the site\n"
+told_line LargeSite = codes "the site is too large\n"
 told_line NoProgram = codes "cannot read the program\n"
 told_line NoSchedule = codes "cannot read the schedule\n"
 told_line Input = codes "input failed\n"
@@ -296,7 +300,7 @@ open_outcome (open_fault.Damaged line) = DamagedJournal line
 open_outcome (open_fault.Refused line) = RefusedJournal line
 open_outcome open_fault.NoMemory = Memory
 
--- the run ends so before a host begins: for its words, its files of tokens, its journal, or want of memory
+-- the run ends so before a host begins: for its words, its files of tokens, its journal, its site, or want of memory
 abbrev pub KeepsFromHosting : Outcome → Type 0
 KeepsFromHosting outcome =
     (outcome ≡ NoAddress) ⊎ (outcome ≡ NotOpen) ⊎ (outcome ≡ TooManyPeers) ⊎ (outcome ≡ NoPeer) ⊎ (outcome ≡ NoOrigin) ⊎ (outcome ≡ NoSync) ⊎ (outcome ≡ Memory)
@@ -304,6 +308,7 @@ KeepsFromHosting outcome =
     ⊎ ((which : TokenFile) × (outcome ≡ ShownTokens which))
     ⊎ ((which : TokenFile) × (line : ℕ) × (outcome ≡ BadTokens which line))
     ⊎ ((which : TokenFile) × (outcome ≡ NoTokens which))
+    ⊎ (outcome ≡ NoSite) ⊎ (outcome ≡ LargeSite)
 
 -- the line that is printed once a host listens on this address
 abbrev pub host_line : List ℕ → List ℕ

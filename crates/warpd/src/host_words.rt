@@ -7,6 +7,7 @@ ghost use Rattle.warpd.specs.Outcome.{KeepsFromHosting};
 
 use crate::origins::{is_address, is_origin};
 use crate::outcome::{Outcome, TokenFile, outcome_of_tokens};
+use crate::site::site_of;
 use crate::telling::{tell_peers, tell_word};
 use std::alloc::{AllocError, Global};
 use std::fs::Files;
@@ -16,6 +17,7 @@ use warp_disk::SyncWhen;
 use warp_host::{DEFAULT_CLIENTS, MOST_PEERS, may_listen, tell_line, token_text};
 use warp_hub::PeerToken;
 use warp_machine::{LONGEST_SAID, PeerAt, is_silent};
+use warp_pages::Site;
 use warp_words::HostJob;
 
 /// The port that is listened on where none is given.
@@ -52,6 +54,8 @@ pub(crate) struct HostPlan {
     pub(crate) journal: Option<String>,
     /// When it is brought to the disk.
     pub(crate) sync: SyncWhen,
+    /// The files of its site.
+    pub(crate) site: Site,
 }
 
 /// The address that the word names.
@@ -245,7 +249,7 @@ fn origins_of<X: Eprint>(rt: &X, alloc: Global, words: &[&str]) -> Result<Vec<St
 }
 
 /// The same, or that there was no memory.
-fn or_memory<T: Drop>(made: Result<T, AllocError>) -> Result<T, Outcome>
+pub(crate) fn or_memory<T: Drop>(made: Result<T, AllocError>) -> Result<T, Outcome>
     ensures { IfErr result KeepsFromHosting }
 {
     match made {
@@ -358,6 +362,7 @@ pub(crate) fn host_plan<X: Files + Eprint>(
     let origins = origins_of(rt, alloc, &job.origins)?;
     let sync = sync_of(rt, job.sync, job.journal.is_some())?;
     let journal = journal_of(rt, alloc, job.journal)?;
+    let site = site_of(rt, alloc, job.site)?;
     Ok(HostPlan {
         address,
         clients: clients_of(job.clients),
@@ -368,6 +373,7 @@ pub(crate) fn host_plan<X: Files + Eprint>(
         operator: job.operator,
         journal,
         sync,
+        site,
     })
 }
 

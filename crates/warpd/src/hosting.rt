@@ -21,7 +21,7 @@ use warp_hub::{Facts, Tokens};
 use warp_journal::{first_line, old_first_line};
 use warp_line::Timeline;
 use warp_machine::{NoTokens, Options, PeerAt, Start, host_machine, read_tokens};
-use warp_pages::{Names, Texts};
+use warp_pages::{Names, Site, Texts};
 use warp_replica::Replica;
 use warp_session::{Sink, Source, write_all};
 use warp_step::Program;
@@ -42,6 +42,7 @@ struct Prepared<T: Timeline> {
     tokens: Option<Tokens>,
     bytes: Vec<u8>,
     names_json: Vec<u8>,
+    site: Site,
     origins: Vec<String>,
     address: SocketAddr,
     channel: ChannelUse,
@@ -226,6 +227,7 @@ fn prepare<P: Host, T: Timeline>(
         tokens: pages,
         bytes,
         names_json,
+        site: plan.site,
         origins: plan.origins,
         address: plan.address,
         channel: ChannelUse {
@@ -374,6 +376,7 @@ fn parted<T: Timeline>(
         tokens,
         bytes,
         names_json,
+        site,
         origins,
         channel,
         journal,
@@ -395,6 +398,7 @@ fn parted<T: Timeline>(
         tokens,
         program: bytes,
         names_json,
+        site,
     };
     let start = Start {
         keys,

@@ -18,6 +18,7 @@ mod program_file;
 mod refused_lines;
 mod schedule_file;
 mod service;
+mod site;
 mod stack;
 mod stepping;
 mod streams;

@@ -70,6 +70,10 @@ pub enum Outcome {
     RefusedJournal(u64),
     /// The journal couldn't be written any more.
     LostJournal,
+    /// The folder of the site, or a file of it, couldn't be read.
+    NoSite,
+    /// The site has more files, or more bytes, than a host keeps.
+    LargeSite,
     /// There is no program of this name, or its file couldn't be read.
     NoProgram,
     /// The file of the schedule couldn't be read.
@@ -98,6 +102,8 @@ pub fn status(outcome: Outcome) -> u8
         Outcome::Program(_) | Outcome::Schedule(_) => 3,
         Outcome::OtherJournal | Outcome::DamagedJournal(_) | Outcome::RefusedJournal(_) => 3,
         Outcome::NoJournal | Outcome::LostJournal => 4,
+        Outcome::NoSite => 4,
+        Outcome::LargeSite => 3,
         Outcome::JournalInUse => 6,
         Outcome::ShownTokens(_) | Outcome::BadTokens(_, _) => 3,
         Outcome::NoProgram | Outcome::NoSchedule | Outcome::NoTokens(_) => 4,
@@ -134,6 +140,8 @@ pub fn say(outcome: Outcome) -> ArrayString<LONGEST_LINE>
         Outcome::DamagedJournal(line) => with_number("journal damaged at line ", line),
         Outcome::RefusedJournal(line) => with_number("journal refused at line ", line),
         Outcome::LostJournal => plain("cannot write the journal\n"),
+        Outcome::NoSite => plain("cannot read the site\n"),
+        Outcome::LargeSite => plain("the site is too large\n"),
         Outcome::NoProgram => plain("cannot read the program\n"),
         Outcome::NoSchedule => plain("cannot read the schedule\n"),
         Outcome::Input => plain("input failed\n"),

@@ -15,6 +15,11 @@ pub(crate) fn tell_word<X: Eprint>(rt: &X, option: &str, word: &str, why: &str) 
     let _ = eprintln!(rt; "{option} {word}: {why}");
 }
 
+/// Tells what the system says of a file, or of a folder, of a site.
+pub(crate) fn tell_site<X: Eprint>(rt: &X, path: &str, error: &io::Error) {
+    let _ = eprintln!(rt; "{path}: {error}");
+}
+
 /// Tells that there are more peers than there may be.
 pub(crate) fn tell_peers<X: Eprint>(rt: &X, count: usize, most: usize) {
     let _ = eprintln!(rt; "--peer: {count} of them, of at most {most}");

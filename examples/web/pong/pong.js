@@ -5,6 +5,7 @@ import { Engine } from "./engine.js"
 import { overlay } from "./overlay.js"
 import { Replica } from "./replica.js"
 import { RULES } from "./rules.js"
+import { scrubber } from "./scrubber.js"
 import { Client } from "./warpd.js"
 
 const WIDTH = 25
@@ -26,8 +27,8 @@ const smooth = { "ball.x": { over: 150, jump: 2 }, "ball.y": { over: 150, jump: 
 /** @type {(id: string) => any} */
 const at = id => document.getElementById(id)
 /** @typedef {import("./replica.js").FinalOutput} Point */
-/** @type {{ final: Point[], ghost: { x: number, y: number, until: number } | null, slid: number }} */
-const seen = { final: [], ghost: null, slid: -Infinity }
+/** @type {{ final: Point[], ghost: { x: number, y: number, until: number } | null, slid: number, past: import("./scrubber.js").PastState | null }} */
+const seen = { final: [], ghost: null, slid: -Infinity, past: null }
 /** @type {any} What the server of this page tells of the game. */
 let game
 /** @type {Replica} */
@@ -109,10 +110,10 @@ function wentBack({ from, to }) {
 function draw(time) {
   requestAnimationFrame(draw)
   replica.frame(time)
-  const shown = replica.smooth
+  const vars = seen.past ? seen.past.vars : replica.vars
+  const shown = seen.past ? Object.fromEntries(Object.keys(smooth).map(name => [name, Number(vars[name])])) : replica.smooth
   const canvas = at("field")
-  canvas.setAttribute("aria-label", `The ball at ${number("ball.x")}, ${number("ball.y")}; Ann at row ${number("ann.row")}, `
-    + `Ben at row ${number("ben.row")}`)
+  canvas.setAttribute("aria-label", `The ball at ${vars["ball.x"]}, ${vars["ball.y"]}; Ann at row ${vars["ann.row"]}, Ben at row ${vars["ben.row"]}`)
   const pen = canvas.getContext("2d")
   const ratio = window.devicePixelRatio || 1
   if (canvas.width !== WIDTH * CELL * ratio) Object.assign(canvas, { width: WIDTH * CELL * ratio, height: HEIGHT * CELL * ratio })
@@ -131,7 +132,7 @@ function draw(time) {
   }
   circle(shown["ball.x"], shown["ball.y"])
   pen.fill()
-  if (!seen.ghost || seen.ghost.until <= performance.now()) return
+  if (seen.past || !seen.ghost || seen.ghost.until <= performance.now()) return
   pen.strokeStyle = colour("late")
   pen.lineWidth = 0.12
   circle(seen.ghost.x, seen.ghost.y)
@@ -143,7 +144,7 @@ function listen(play) {
   /** @type {Record<string, number>} */
   const keys = { ArrowUp: -1, ArrowDown: 1 }
   addEventListener("keydown", event => {
-    if (!(event.key in keys) || event.target === at("delay")) return
+    if (!(event.key in keys) || event.target instanceof HTMLInputElement) return
     event.preventDefault()
     play.steer(keys[event.key])
   })
@@ -195,6 +196,7 @@ async function main() {
   listen(play)
   requestAnimationFrame(draw)
   if (words.has("stats")) overlay(replica)
+  scrubber(replica, { parent: at("past"), show: past => (seen.past = past) })
   put("state", "Waiting for the other player's page.")
   await post("/join", player)
   followDelay().catch(() => {})

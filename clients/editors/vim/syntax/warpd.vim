@@ -38,6 +38,7 @@ syntax region warpdBody matchgroup=warpdBrace start="{=" end="=}" contains=@warp
 syntax cluster warpdStatement contains=warpdControl,warpdLet,warpdCall,warpdBoolean,warpdTrigger,warpdNumber,warpdTime,warpdQuoted,warpdBodyComment,warpdType
 syntax keyword warpdControl if else for while return break continue contained
 syntax keyword warpdLet let contained
+syntax match warpdLet "\<var\ze\s\+\w" contained
 syntax match warpdCall "\<\%(put\|schedule\|request_stop\|set_mode\|present\|min\|max\|abs\|clamp\|floor\|round\|fixed\|among\|mix\|muldiv\)\ze\s*(" contained
 syntax match warpdBodyComment "//\%(\%(=}\)\@!.\)*" contained contains=warpdTodo,@Spell
 syntax region warpdBodyComment start="/\*" end="\*/" end="=}"me=s-1 contained contains=warpdTodo,@Spell

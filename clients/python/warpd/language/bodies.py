@@ -6,7 +6,7 @@ from collections.abc import Iterable, Sequence
 from typing import Optional, Union
 
 from . import refused, tree
-from .faults import nearest, port_of
+from .faults import listed, nearest, port_of
 from .scope import CONSTANTS, EFFECTS, FUNCTIONS, ON_BITS, STATEMENTS, TRIGGERS, Kind, Scope
 from .tree import At
 from .types import FIXED, INT, Array, Type
@@ -122,9 +122,7 @@ class BodyCheck:
         elif kind in (Kind.INPUT, Kind.ACTION):
             self.is_declared(name, at)
         elif kind is Kind.OUTPUT:
-            self.report.error(
-                at, f"`{name}` is an output: it cannot be read", "keep what you put in a `let` or in a state variable"
-            )
+            self.reads_output(name, at)
         elif kind in (Kind.TIMER, Kind.STARTUP, Kind.SHUTDOWN):
             hint = f"`present({name})` asks whether it is there"
             self.report.error(at, f"`{name}` is {kind.value}: it has no value", hint)
@@ -135,6 +133,15 @@ class BodyCheck:
         else:
             self.scope.read.add(name)
         return self.scope.types.get(name, INT)
+
+    def reads_output(self, name: str, at: At) -> None:
+        """Checks an output that is read: what was put on it at this tag is read where the reaction may put on it."""
+        if name in self.lists["writes"]:
+            self.scope.read_outputs.setdefault(name, at)
+        else:
+            name = _without_channel(name, self.lists["writes"])
+            text = f"`{name}` is an output: it cannot be read here"
+            self.report.error(at, text, f"a reaction reads what it may put: {self.header('writes', name)}")
 
     def fixed_at_last(self, it: tree.Expression, text: str, hint: str) -> None:
         """Checks an expression that is constant when the loops around it are written out."""
@@ -149,14 +156,14 @@ class BodyCheck:
             self.statement(it)
         for name in set(self.lets) - before:
             local = self.lets.pop(name)
-            if not local.is_read and local.kind is Kind.LET:
+            if not local.is_read and local.kind in (Kind.LET, Kind.LOCAL):
                 self.report.warning(local.at, f"`{name}` is never read")
 
     def statement(self, it: tree.Statement) -> None:
         match it:
             case tree.Let():
                 wanted = self.scope.type(it.type, is_number=False) if it.type else None
-                self.declare(it.name, Kind.LET, self.value(it.value, wanted))
+                self.declare(it.name, Kind.LOCAL if it.is_variable else Kind.LET, self.value(it.value, wanted))
             case tree.Assign():
                 self.assign(it)
             case tree.Invoke():
@@ -182,7 +189,7 @@ class BodyCheck:
     def declare(self, name: tree.Name, kind: Kind, type: Type) -> None:
         known = self.kind_of(name.text)
         if known:
-            hint = "a `let` has a name of its own" if kind is Kind.LET else "it wants a name of its own"
+            hint = f"{kind.value} has a name of its own" if kind in (Kind.LET, Kind.LOCAL) else "it wants a name of its own"
             self.report.error(name.at, f"`{name.text}` is {known.value} already", hint)
         else:
             self.lets[name.text] = Local(kind, type, name.at)
@@ -258,7 +265,7 @@ class BodyCheck:
         if not it.owner:
             return kind, self.scope.element(self.type_of(owner), it, it.indices, self)
         type = self.target(it.owner)[1]
-        return kind, self.scope.part(type, it, self) if kind in (Kind.VARIABLE, Kind.LET, Kind.GIVEN) else INT
+        return kind, self.scope.part(type, it, self) if kind in (Kind.VARIABLE, Kind.LET, Kind.LOCAL, Kind.GIVEN) else INT
 
     def assign(self, it: tree.Assign) -> None:
         kind, type = self.target(it.name)
@@ -268,7 +275,8 @@ class BodyCheck:
             Kind.INPUT: "keep it in a state variable, or connect an output to it in main",
             Kind.ACTION: f"write `schedule({name}, delay, value);`",
             **dict.fromkeys((Kind.TIMER, Kind.STARTUP, Kind.SHUTDOWN, Kind.ROUTINE), ""),
-            **dict.fromkeys((*CONSTANTS, Kind.LET, Kind.GIVEN, Kind.TURN), "it is constant: take a state variable"),
+            **dict.fromkeys((*CONSTANTS, Kind.GIVEN, Kind.TURN), "it is constant: take a state variable"),
+            Kind.LET: "it is constant: take a `var`, or a state variable",
         }
         is_given = kind is Kind.GIVEN and isinstance(it.name, tree.Place) and isinstance(self.type_of(name), Array)
         if kind is None:
@@ -280,16 +288,16 @@ class BodyCheck:
             type = type.of
         elif kind in hints:
             self.report.error(at, f"`{name}` is {kind.value}: it cannot be assigned", hints[kind])
-        elif kind is Kind.OUTPUT and it.operator:
-            self.reads(name, at)
         elif kind is Kind.OUTPUT:
             self.is_effect(name, at)
+            if it.operator and name in self.lists["writes"]:
+                self.reads_output(name, at)
         if it.operator in ON_BITS and type == FIXED:
             self.report.error(at, f"`{name}` is `fixed`: `{it.operator}` is of whole numbers")
         elif it.operator:
             self.scope.of_type(tree.Binary(it.operator, ZERO, it.value, it.value.at), type, self)
         else:
-            self.value(it.value, type if kind in (Kind.VARIABLE, Kind.OUTPUT) else None)
+            self.value(it.value, type if kind in (Kind.VARIABLE, Kind.LOCAL, Kind.OUTPUT) else None)
         if it.operator and kind is Kind.VARIABLE:
             self.scope.read.add(name)
 
@@ -303,8 +311,10 @@ class BodyCheck:
         elif name in refused.BODY:
             self.report.error(call.name.at, *refused.BODY[name])
         elif name not in STATEMENTS:
-            near = nearest(name, [*STATEMENTS, *self.scope.routines]) or "there are `put` and `schedule`"
+            near = nearest(name, [*STATEMENTS, *self.scope.routines]) or f"there are {listed(f'`{it}`' for it in STATEMENTS)}"
             self.report.error(call.name.at, f"no statement `{name}`", near)
+        elif name == "schedule" and len(call.parts) == 1:
+            self.report.error(call.at, "`schedule` has a delay", f"write `schedule({getattr(call.parts[0], 'name', 'c')}, 0);`")
         elif self.scope.has_parts(call, *STATEMENTS[name]) and call.parts:
             type = self.effect(call, *((Kind.OUTPUT, "put on") if name == "put" else (Kind.ACTION, "scheduled")))
             if name == "schedule":

@@ -23,6 +23,11 @@ def nanoseconds(text: str) -> int:
     return int(number) * next(each for word, each in UNITS.items() if unit.startswith(word))
 
 
+def _is_group(it: tree.Name | None) -> bool:
+    """Whether a type is an array of one side that is known."""
+    return isinstance(it, tree.Sized) and len(it.sides) == 1 and it.sides[0] is not None
+
+
 class Builder(TestBuilder):
     """Makes the parts of the tree, from the inside out. `may_need_later` says that something was made that only version 4
     of program files has."""
@@ -87,13 +92,17 @@ class Builder(TestBuilder):
         return dataclasses.replace(member, called=text.text[1:-1])
 
     def ports(self, attribute, origin, kind, width, places, type):
-        if isinstance(type, tree.Sized) and width is None and len(type.sides) == 1:
+        if _is_group(type) and width is None:
             # An array on a port is a group of ports.
             (width,), type = type.sides, tree.Name(type.text, type.at)
         return tree.Ports(origin, kind.kind == "INPUT", places, type, (attribute or kind).at, width)
 
     def action(self, name, arguments, type):
-        return tree.Action(name, arguments or (), type)
+        width = None
+        if _is_group(type):
+            # An array on an action is a group of actions.
+            (width,), type = type.sides, tree.Name(type.text, type.at)
+        return tree.Action(name, arguments or (), type, width=width)
 
     def timer(self, name, arguments):
         return tree.Timer(name, arguments or ())
@@ -166,6 +175,9 @@ class Builder(TestBuilder):
 
     def let(self, name, type, value):
         return tree.Let(name, type, value)
+
+    def variable(self, _word, name, type, value):
+        return tree.Let(name, type, value, True)
 
     def assign(self, name, operator, value):
         sign = operator.text[:-1]

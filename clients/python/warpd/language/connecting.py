@@ -7,12 +7,13 @@ from itertools import cycle, islice
 from typing import NamedTuple, Optional
 
 from . import tree
-from .faults import Report
+from .faults import Report, port_of
 from .hierarchy import Node
 from .model import Program, ranged
 from .places import Places, Point, Points
 from .scope import Kind, count_of
 from .tree import At
+from .types import Struct
 
 
 class Edge(NamedTuple):
@@ -126,7 +127,7 @@ class Connecting:
         targets = [
             (point, place) for place in it.targets for point in self.places.points(place, Kind.OUTPUT, Kind.INPUT)
         ]
-        if self.report.errors > before or not self._fits(it, len(sources), len(targets)):
+        if self.report.errors > before or not self._are_of_structs(sources, targets) or not self._fits(it, len(sources), len(targets)):
             return
         sources = islice(cycle(sources), len(targets)) if it.is_broadcast else sources
         for source, (target, place) in zip(sources, targets):
@@ -134,9 +135,19 @@ class Connecting:
             if is_right and self._is_of_type(source, target, place.at):
                 self.net.edges[target] = Edge(source, delay, place.at)
 
+    def _are_of_structs(self, sources: Points, targets: list[tuple[Point, tree.Place]]) -> bool:
+        """Whether ports of structs stand side by side with ports of the same; else the first that do not are told."""
+        for source, (target, place) in zip(sources, targets):
+            left, right = source.declared, target.declared
+            if left != right and (isinstance(left, Struct) or isinstance(right, Struct)):
+                names = [f"{port_of(it.name)}" if not it.node.path else f"{it.node.title}.{port_of(it.name)}" for it in (source, target)]
+                self._tell(place.at, f"`{names[0]}` is `{left}` and `{names[1]}` is `{right}`", "a reaction between them makes one of the other")
+                return False
+        return True
+
     def _is_of_type(self, source: Point, target: Point, at: At) -> bool:
         """Whether two ports have values of one type; else that is told."""
-        left, right = source.type, target.type
+        left, right = source.declared, target.declared
         if left != right:
             hint = "a reaction between them changes it: `y = fixed(x);`, or `y = round(x);`"
             self._tell(at, f"`{source}` is `{left}` and `{target}` is `{right}`", hint)

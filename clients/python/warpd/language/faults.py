@@ -137,8 +137,13 @@ def nearest(name: str, names: Iterable[str]) -> str:
 
 
 def port_of(name: str) -> str:
-    """The port, as it was declared, that has this channel: `y` of `y[2]`."""
-    return re.sub(r"\[\d+\]$", "", name)
+    """The port, as it was declared, that has this channel or field: `y` of `y[2]`."""
+    return re.sub(r"\[\w+\]$", "", name)
+
+
+def as_written(name: str) -> str:
+    """A port as a text names it, of a struct a field: `out.value` for `out[value]`."""
+    return re.sub(r"\[([A-Za-z]\w*)\]", r".\1", name)
 
 
 def channels_told(names: Sequence[str], every: int) -> tuple[str, str]:

@@ -5,7 +5,7 @@ from __future__ import annotations
 from dataclasses import replace
 from typing import Optional, Union
 
-from . import tree
+from . import refused, tree
 from .faults import Report, nearest
 from .model import LIMITS, Program, ranged
 from .routines import RoutineCheck, declared
@@ -68,7 +68,8 @@ class Head:
         if name in self.found:
             self.report.error(it.name.at, f"`{name}` stands twice")
         elif name not in PROPERTIES:
-            hint = nearest(name, PROPERTIES) or "there are `stop`, `unit`, `origins` and `version`"
+            hint = nearest(name, PROPERTIES) or "there are `stop`, `timeout`, `unit`, `origins` and `version`"
+            hint = "leave it out" if name in refused.PROPERTIES else hint
             self.report.error(it.name.at, f"`{name}` is no property of a program", hint)
         self.found.setdefault(name, it)
 
@@ -108,6 +109,7 @@ class Head:
                 self.report.error(it.name.at, f"there is a type `{it.name.text}` already")
             elif isinstance(it, tree.Enum):
                 scope.named[it.name.text] = INT
+                scope.enums.add(it.name.text)
                 self._enum(it)
             else:
                 scope.named[it.name.text] = made = Struct(it.name.text, {}, {})

@@ -13,7 +13,7 @@ from .model import Class, Instance, Program, ranged
 from .scope import Kind, Scope
 from .sources import Sources
 from .tree import At
-from .types import INT, Array
+from .types import INT, Array, Struct
 from .values import Cells
 
 if TYPE_CHECKING:
@@ -81,8 +81,15 @@ class Node:
         return [it.text for it in self.raw.ports(wanted is Kind.INPUT)]
 
     def channels(self, name: str) -> list[str]:
-        """The ports that one declared port is."""
-        return [f"{name}[{it}]" for it in range(self.widths[name])] if name in self.widths else [name]
+        """The ports that one declared port is: of a multiport its channels, of a struct its fields."""
+        struct = self.struct(name)
+        inner = range(self.widths[name]) if name in self.widths else struct.fields if struct else None
+        return [name] if inner is None else [f"{name}[{it}]" for it in inner]
+
+    def struct(self, name: str) -> Optional[Struct]:
+        """The struct that a port or an action of its own has values of."""
+        found = self.raw.scope.types.get(name)
+        return found if isinstance(found, Struct) and self.kind(name) in (Kind.INPUT, Kind.OUTPUT, Kind.ACTION) else None
 
     def every(self) -> Iterator[Node]:
         """It and all that it contains, the outer ones first, in the order of the text."""
@@ -112,6 +119,9 @@ class Hierarchy:
             if it.width:
                 width = self._width(node, it.width, node.raw.scope)
                 node.widths.update({place.name.text: width for place in it.places if not place.owner})
+        for it in node.raw.tree.every(tree.Action):
+            if it.width:
+                node.widths[it.name.text] = self._width(node, it.width, node.raw.scope)
         size = 1 + len(node.raw.tree.members) + len(node.raw.tree.parameters) + sum(node.widths.values())
         self.program.structure.take(size, node.at, "the instances with their members and channels come to too many parts")
         for it in node.raw.tree.every(tree.Instance):
@@ -143,7 +153,7 @@ class Hierarchy:
                     self.report.error(it.name.at, f"more than {MOST_NODES} instances")
                 return
             given = self._given(node, it, raw, number if it.width else None)
-            constants = self._constants(raw, given, it.name.at)
+            constants = self._constants(raw, given, it.name.at, all(each.name for each in it.arguments))
             part = Node((*node.path, name + label), raw, constants, it.name.at, called=it.called and it.called + label)
             node.parts[name].append(part)
             self._fill(part, (*around, raw))

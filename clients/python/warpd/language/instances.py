@@ -10,7 +10,9 @@ from typing import Optional, Union
 from . import tree
 from .arrays import MOST_ARRAYS, MOST_CELLS
 from .faults import Report, listed
+from .lowering import Echo
 from .model import Instance, Program, joined, ranged
+from .needs import tell_need
 from .scope import Kind, count_of, is_name
 from .statements import MOST_TURNS, Body, TooMany
 from .tree import At
@@ -41,6 +43,7 @@ class Writer:
     def __init__(self, it: Instance, program: Program, report: Report):
         self.it, self.program, self.report = it, program, report
         self.kept: list[str] = []
+        self.echoes: dict[str, Echo] = {}
         # The arrays of its state, and the constant ones whose cells are asked for by an index that is worked out.
         self.cells: dict[str, Cells] = {}
         self.asked: dict[str, Cells] = {}
@@ -56,7 +59,7 @@ class Writer:
             "arrays": [start for start in states if len(start) == 3],
             "inputs": list(map(it.of.file_name, it.of.names(True))),
             "outputs": list(map(it.of.file_name, it.of.names(False))),
-            "actions": [[each.name.text, *self._times(each, "the delay")] for each in every(tree.Action)],
+            "actions": [[it.of.file_name(each.name.text), *self._times(each, "the delay")] for each in every(tree.Action)],
             "timers": [[each.name.text, *self._times(each, "the offset", "the period")] for each in every(tree.Timer)],
             "reactions": [self._header(each) for each in every(tree.Reaction)],
         }
@@ -65,17 +68,30 @@ class Writer:
     def bodies(self) -> None:
         """Writes the bodies, and the variables that they take."""
         it = self.it
+        self._echo()
         for reaction, written in zip(it.of.tree.every(tree.Reaction), it.reactor.get("reactions", ())):
             body = self._body(reaction)
             written.update({"body": body} if body else {})
-        it.kept = len(self.kept)
+        own = [name for echo in self.echoes.values() for name in echo] + self.kept
+        it.kept = len(own)
         it.sides = {name: cells.sides for name, cells in {**self.cells, **self.asked}.items()}
-        if self.kept or self.asked:
-            variables = it.reactor.get("vars", []) + [[name, 0] for name in self.kept]
+        if own or self.asked:
+            variables = it.reactor.get("vars", []) + [[name, 0] for name in own]
             tables = [[name, cells.count, [*cells.values]] for name, cells in self.asked.items()]
             lists = {"vars": variables, "arrays": it.reactor.get("arrays", []) + tables}
             rest = {key: value for key, value in it.reactor.items() if key not in ("name", *lists)}
             it.reactor = {"name": it.name, **{key: value for key, value in lists.items() if value}, **rest}
+
+    def _echo(self) -> None:
+        """Names the variables of the outputs that are read: only version 4 tells at which tag something was put."""
+        scope, taken = self.it.of.scope, ChainMap({}, self.it.of.given, self.it.of.scope.kinds)
+        for name, at in scope.read_outputs.items():
+            self.program.needs_later()
+            if not self.program.is_later:
+                tell_need(at, "an output that is read", self.program, self.report)
+            flat = self.it.of.file_name(name)
+            self.echoes[name] = echo = Echo(*(joined([flat, part], taken) for part in ("put", "tag")))
+            taken.update(dict.fromkeys(echo, Kind.VARIABLE))
 
     def _starts(self, it: tree.State) -> list[list]:
         """The variables of a state, each with its start; of a struct one for each field. An array has its count too."""
@@ -143,7 +159,8 @@ class Writer:
 
     def _body(self, reaction: tree.Reaction) -> list:
         of, scope = self.it.of, self.it.of.scope
-        ports = {name: of.file_name(name) for name in of.names(True) + of.names(False)}
+        actions = [it.name.text for it in of.tree.every(tree.Action)]
+        ports = {name: of.file_name(name) for name in (*of.names(True), *of.names(False), *actions)}
         fields = scope.fields
         if self.cells:
             fields = {name: {field: self.cells.get(it, it) for field, it in its.items()} for name, its in fields.items()}
@@ -152,7 +169,8 @@ class Writer:
         body = Body(
             names, scope.types, self.program.unit or 1, scope.named, scope.routines, outputs, self.program.bodies,
             self.report, self.program.is_later)
-        body.asked = self.asked
+        body.asked, body.echoes = self.asked, self.echoes
+        body.echoed = {ports[name]: echo for name, echo in self.echoes.items()}
         statements = []
         try:
             statements = body.made(reaction.body or (), self._variable, reaction.at)

@@ -6,7 +6,7 @@ rounded down to one, and an `int` beside one is made `fixed` first."""
 from __future__ import annotations
 
 from collections.abc import Callable, Mapping, Sequence
-from typing import Optional, Union
+from typing import NamedTuple, Optional, Union
 
 from . import tree
 from .tree import At
@@ -18,8 +18,25 @@ OPERATORS = {
     "+": "+", "-": "-", "*": "*", "/": "/", "%": "%", "==": "=", "<": "<", "&&": "and", "||": "or",
 }
 BITS = {"&", "|", "^", "<<", ">>"}
+# The tag as one number, which is never 0; a time has 256 microsteps.
+NOW = ["+", ["+", ["*", ["time"], 256], ["micro"]], 1]
 # What an expression comes to: of a struct each field by its name, of an array its cells.
 Made = Union[Value, dict[str, Value], Cells]
+
+
+class Echo(NamedTuple):
+    """The variables that keep what was put on an output, and at which tag."""
+
+    value: str
+    tag: str
+
+    @property
+    def is_there(self) -> Value:
+        return made("=", self.tag, NOW)
+
+    @property
+    def read(self) -> Value:
+        return made("if", self.is_there, self.value, 0)
 
 
 class Maker:
@@ -32,6 +49,8 @@ class Maker:
         self.left = MOST_PARTS
         # Whether what only a program file of version 4 has may stand for what others have not.
         self.is_later = False
+        # Of each output that is read: what is on it, and whether something is.
+        self.echoes: dict[str, Echo] = {}
         # The constant arrays whose cells are asked for by an index that is worked out.
         self.asked: dict[str, Cells] = {}
 
@@ -62,6 +81,8 @@ class Maker:
                 return number_of(it.text), FIXED if is_fixed(it.text) else INT
             case tree.Duration():
                 return it.nanoseconds // self.unit, INT
+            case tree.Reference() if it.name in self.echoes:
+                return self.echoes[it.name].read, self.types.get(it.name, INT)
             case tree.Reference():
                 return self.names.get(it.name, it.name), self.types.get(it.name, INT)
             case tree.Member():
@@ -75,6 +96,8 @@ class Maker:
                 return binary(it.operator, self.typed(it.left), self.typed(it.right), self.is_later)
             case tree.Choice():
                 return self.choice(it)
+            case tree.Call(tree.Name("present"), (tree.Reference(name),)) if name in self.echoes:
+                return self.echoes[name].is_there, INT
             case tree.Call(tree.Name("present")):
                 return ["present", self.names.get(it.parts[0].name, it.parts[0].name)], INT
             case tree.Call():

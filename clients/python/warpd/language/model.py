@@ -11,7 +11,7 @@ from typing import TYPE_CHECKING, NamedTuple, Optional
 from . import tree
 from .arrays import Start, started
 from .bodies import BodyCheck
-from .faults import Report
+from .faults import Report, as_written
 from .lowering import Made, Maker
 from .routines import Routine
 from .scope import LONGEST_NAME, Scope
@@ -124,7 +124,7 @@ class Instance:
 
     def told(self, port: str) -> str:
         """A port as the text names it."""
-        names = {flat: name for name, flat in self.of.flat.items()}
+        names = {flat: as_written(name) for name, flat in self.of.flat.items()}
         return f"{self.title}.{names.get(port, port)}"
 
 

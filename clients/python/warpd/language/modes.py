@@ -2,7 +2,10 @@
 
 `set_mode` schedules an action `switch` for the next microstep, and the reactor's first reaction there assigns `mode`. A
 timer of a mode is an action whose value is the number of the entry at which it was begun: an entry counts up, so that
-what was begun before says nothing any more. An action of a mode has a second one beside it, with that number."""
+what was begun before says nothing any more. An action of a mode has a second one beside it, with that number.
+
+A timer that goes on where `history` leads to its mode has a variable too: when it comes next, or outside of its mode how
+long that still takes. Its action goes there in steps, since a delay is constant."""
 
 from __future__ import annotations
 
@@ -15,11 +18,17 @@ from .faults import Report, nearest
 from .tree import At
 
 Expressions = Iterable[tree.Expression]
+# The steps in which a timer goes the rest of its way: all that a delay may be, in three of each at most.
+STEPS = tuple(4 ** power for power in range(11, -1, -1))
 
 
-def without_modes(it: tree.Reactor, report: Report) -> tree.Reactor:
-    """A reactor that does the same without modes."""
-    return Modes(it, report).written() if it.every(tree.Mode) else it
+def without_modes(it: tree.Reactor, resumed: list[At], report: Report) -> tree.Reactor:
+    """A reactor that does the same without modes. `resumed` takes where `history` leads to timers: they ask for the tag."""
+    if not it.every(tree.Mode):
+        return it
+    modes = Modes(it, report)
+    resumed += modes.resumed.values()
+    return modes.written()
 
 
 class Modes:
@@ -39,12 +48,21 @@ class Modes:
         self.home: dict[str, tree.Mode] = {}
         # Whether some reaction leads to a mode.
         self.leads = False
+        # The modes with timers to which `history` leads, each with where it does; and when their timers come next.
+        self.resumed: dict[str, At] = {}
+        self.due: dict[str, str] = {}
+        for place in [place for reaction in _reactions(it) for place in reaction.writes]:
+            if place.transition == "history" and any(isinstance(each, tree.Timer) for each in self._members(place.name.text)):
+                self.resumed.setdefault(place.name.text, place.at)
 
     def _free(self, name: str) -> str:
         while name in self.taken:
             name += "_"
         self.taken.add(name)
         return name
+
+    def _members(self, mode: str) -> tuple[tree.Part, ...]:
+        return self.modes[self.numbers[mode]].members if mode in self.numbers else ()
 
     def written(self) -> tree.Reactor:
         self._check()
@@ -54,14 +72,15 @@ class Modes:
         own = [self._plain(each) if isinstance(each, tree.Reaction) else each for each in own]
         members: list = [*self._variables(), *(each for each in own if not isinstance(each, tree.Reaction))]
         for mode in self.modes:
-            members += [each for each in mode.members if not isinstance(each, (tree.Reaction, tree.Timer))]
-        members += [tree.Action(self._name(name), (), None) for name in (self.switch, *self.timers)]
+            kept = [each for each in mode.members if not isinstance(each, (tree.Reaction, tree.Timer))]
+            members += [dataclasses.replace(it, is_in_mode=True) if isinstance(it, tree.Action) else it for it in kept]
+        members += [tree.Action(self._name(name), (), None, is_own=True) for name in (self.switch, *self.timers)]
         for mode in self.modes:
             begun = [it for it in mode.members if isinstance(it, (tree.Timer, tree.Action))]
             members += [each for it in begun for each in self._beside(it)]
-        reactions = [*map(self._ticking, self.timers), *self._in_order(own)]
+        reactions = [*(self._ticking(name) for name in self.timers if name not in self.due), *self._in_order(own)]
         if self.leads:
-            reactions = [self._switching(), *reactions]
+            reactions = [self._switching(), *reactions, *map(self._going, self.due)]
         if self.leads and any(map(self._asks_first, self.modes)):
             reactions.append(self._ending())
         return dataclasses.replace(self.it, members=(*members, *reactions))
@@ -96,7 +115,9 @@ class Modes:
             elif isinstance(it, tree.Timer):
                 self.timers[it.name.text] = it
                 self.home[it.name.text] = mode
-                if mode.is_initial:
+                if mode.name.text in self.resumed:
+                    self.due[it.name.text] = self._free(f"{it.name.text}_due")
+                elif mode.is_initial:
                     self.first[it.name.text] = self._free(f"{it.name.text}_first")
             elif isinstance(it, tree.Action):
                 self.home[it.name.text] = mode
@@ -108,9 +129,9 @@ class Modes:
         for mode in self.modes:
             if self._asks_first(mode):
                 starts[self.started[mode.name.text]] = int(mode.is_initial)
-        return [
-            tree.State(self._name(name), None, self._number(start), is_own=name != self.mode) for name, start in starts.items()
-        ]
+        begun = {name: self._number(start) for name, start in starts.items()}
+        begun.update((due, self._times(name)[0]) for name, due in self.due.items())
+        return [tree.State(self._name(name), None, start, is_own=name != self.mode) for name, start in begun.items()]
 
     def _asks_first(self, mode: tree.Mode) -> bool:
         """Whether something of a mode depends on whether it was entered before."""
@@ -162,6 +183,9 @@ class Modes:
         code = self._number(2 * self.numbers[mode.name.text])
         return self._both((self._present(self.switch), self._is(self._of(self.switch), code)))
 
+    def _now(self) -> tree.Member:
+        return tree.Member(tree.Place(self._name("lf"), self._name("time")), self.at)
+
     def _times(self, name: str) -> tuple[tree.Expression, tree.Expression]:
         given = self.timers[name].arguments
         return (given[0] if given else self._number(0), given[1] if given[1:] else self._number(0))
@@ -170,6 +194,8 @@ class Modes:
 
     def _is_there(self, name: str, mode: tree.Mode) -> Optional[tree.Expression]:
         """Whether a trigger counts in its mode; None where it does whenever it is present."""
+        if name in self.due:
+            return self._both((self._in(self.home[name]), self._is(self._of(self.due[name]), self._now())))
         if name in self.timers:
             ways = [self._both((self._present(name), self._is(self._of(name), self._of(self.entries))))]
             if name in self.first:
@@ -188,6 +214,8 @@ class Modes:
 
     def _triggers(self, name: str, mode: tree.Mode) -> list[str]:
         """What must be named so that it can be asked whether a trigger counts."""
+        if name in self.due:
+            return [name, self.switch, *["startup"] * self.home[name].is_initial]
         if name in self.timers:
             return [name, *self._first(name), self.switch]
         if name in self.beside:
@@ -253,9 +281,9 @@ class Modes:
                 self.report.error(place.at, f"there is no mode `{name}`", nearest(name, self.numbers))
             elif place.is_plain and name in self.numbers:
                 is_history = place.transition == "history"
-                if is_history and any(each is self.modes[self.numbers[name]] for each in self.home.values()):
+                if is_history and any(isinstance(each, tree.Action) for each in self._members(name)):
                     hint = f"write `reset({name})`, or let an action outside of modes stand for it"
-                    text = f"`{name}` has timers or actions: by `history` they would go on with the time that was left"
+                    text = f"`{name}` has actions: by `history` they would go on with the time that was left"
                     self.report.error(place.at, text, hint)
                 self.leads = True
                 ways[name] = 2 * self.numbers[name] + is_history
@@ -312,6 +340,7 @@ class Modes:
         """Enters a mode: a reset begins its timers, and gives its variables their starts."""
         code, two = self._of(self.switch), self._number(2)
         body: list[tree.Statement] = [
+            *(tree.If(self._in(mode), tuple(moved), ()) for mode in self.modes if (moved := [*self._moved(mode, "-")])),
             self._set(self.mode, self._is(code, two, "/")),
             self._set(self.entries, self._is(self._of(self.entries), self._number(1), "+")),
         ]
@@ -319,12 +348,23 @@ class Modes:
             begins = [each for it in mode.members for each in self._begins(it)]
             if begins:
                 body.append(tree.If(self._entered(mode), tuple(begins), ()))
-        return self._react([self.switch], self.timers, body)
+            if moved := [*self._moved(mode, "+")]:
+                body.append(tree.If(self._in(mode), tuple(moved), ()))
+        return self._react([self.switch], [name for name in self.timers if name not in self.due], body)
+
+    def _moved(self, mode: tree.Mode, sign: str) -> Iterator[tree.Statement]:
+        """What is left of the times of a mode's timers, or when that is over."""
+        for name in self.due if mode.name.text in self.resumed else ():
+            if self.home[name] is mode:
+                due = self._of(self.due[name])
+                yield tree.If(self._is(due, self._number(0), ">="), (self._set(self.due[name], self._is(due, self._now(), sign)),), ())
 
     def _begins(self, it: tree.Part) -> Iterator[tree.Statement]:
         if isinstance(it, tree.State) and it.is_reset:
             yield tree.Assign(it.name, None, it.start or self._number(0))
-        if isinstance(it, tree.Timer):
+        if isinstance(it, tree.Timer) and it.name.text in self.due:
+            yield self._set(self.due[it.name.text], self._times(it.name.text)[0])
+        elif isinstance(it, tree.Timer):
             (offset, period), entry = self._times(it.name.text), self._of(self.entries)
             again = tree.If(self._is(period, self._number(0), ">"), (self._schedule(it.name.text, period, entry),), ())
             later = self._schedule(it.name.text, offset, entry)
@@ -340,6 +380,26 @@ class Modes:
         again = tree.If(test, (self._schedule(name, period, entry),), ())
         return self._react([name, *self._first(name)], [name], [again])
 
+    def _going(self, name: str) -> tree.Reaction:
+        """Sets when a timer comes next where it has come, and lets its action go on to there."""
+        period, due, entry = self._times(name)[1], self._of(self.due[name]), self._of(self.entries)
+        never, later = tree.Unary("-", self._number(1), self.at), self._is(self._now(), period, "+")
+        again = tree.Choice(self._is(period, self._number(0), ">"), later, never, self.at)
+        begins = [self._both((self._present(name), self._is(self._of(name), entry))), self._present(self.switch)]
+        begins += [self._present("startup")] * self.home[name].is_initial
+        left = tree.Let(self._name(self._free("left")), None, self._is(due, self._now(), "-"))
+        steps = [*((each, "==") for each in self._times(name)), *((self._number(each), ">=") for each in STEPS)]
+        step: tuple[tree.Statement, ...] = ()
+        for each, sign in reversed(steps):
+            delay = tree.Call(self._name("max"), (each, self._number(1)), self.at)
+            step = (tree.If(self._is(self._of(left.name.text), each, sign), (self._schedule(name, delay, entry),), step),)
+        goes = self._both((self._is(due, self._now(), ">"), self._both(begins, "||")))
+        body = [
+            tree.If(self._is(due, self._now()), (self._set(self.due[name], again),), ()),
+            tree.If(goes, (left, *step), ()),
+        ]
+        return self._react(self._triggers(name, self.home[name]), [name], [tree.If(self._in(self.home[name]), tuple(body), ())])
+
     def _ending(self) -> tree.Reaction:
         """Keeps which modes were entered, behind all other reactions."""
         body = [
@@ -347,6 +407,15 @@ class Modes:
             for mode in self.modes if self._asks_first(mode)
         ]
         return self._react([self.switch], (), body)
+
+
+def _reactions(it: tree.Reactor) -> Iterator[tree.Reaction]:
+    """The reactions of a reactor, those of its modes among them."""
+    for each in it.members:
+        if isinstance(each, tree.Reaction):
+            yield each
+        elif isinstance(each, tree.Mode):
+            yield from (part for part in each.members if isinstance(part, tree.Reaction))
 
 
 def _names(it: tree.Reactor) -> Iterator[str]:

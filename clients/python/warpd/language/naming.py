@@ -4,7 +4,7 @@ channels as the text has them, arrays with their sides; and which variables it t
 from __future__ import annotations
 
 from . import tree
-from .faults import port_of
+from .faults import as_written, port_of
 from .model import Instance, Program
 from .types import Array
 
@@ -41,7 +41,7 @@ def _names(it: Instance) -> list[tuple[str, str]]:
         if sides[1:]:
             board[name] = "".join(f"[{side}]" for side in sides)
             found[name] = found.get(name, name) + board[name]
-    found.update({flat: name for name, flat in it.of.flat.items()})
+    found.update({flat: as_written(name) for name, flat in it.of.flat.items()})
     for member in it.of.tree.members:
         if getattr(member, "called", ""):
             for each in member.places if isinstance(member, tree.Ports) else (member,):

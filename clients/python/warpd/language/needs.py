@@ -21,16 +21,21 @@ Need = tuple[At, str]
 def may_need_later(sources: Sources) -> bool:
     """Whether something in a text may need version 4: of what is worked out when it is compiled, and of what nothing names,
     that is not known yet. A program of too much for version 2 tells so later."""
-    return any(it.may_need_later for it in sources.files)
+    return bool(sources.resumed) or any(it.may_need_later for it in sources.files)
 
 
 def tell_needs(file: tree.File, sources: Sources, program: Program, report: Report) -> None:
     """Tells what a text has that the version which it says has not."""
     if program.is_later or not program.is_stated or not may_need_later(sources):
         return
-    for at, what in _needs_of(file, sources):
-        hint = f"write `version: {LATER}`, or leave it out"
-        report.error_once(at, "version", f"{what}: a program file of version {program.version} has none", hint)
+    resumed = ((at, "`history` to a mode with timers") for at in sources.resumed)
+    for at, what in (*resumed, *_needs_of(file, sources)):
+        tell_need(at, what, program, report)
+
+
+def tell_need(at: At, what: str, program: Program, report: Report) -> None:
+    hint = f"write `version: {LATER}`, or leave it out"
+    report.error_once(at, "version", f"{what}: a program file of version {program.version} has none", hint)
 
 
 def _needs_of(file: tree.File, sources: Sources) -> Iterator[Need]:

@@ -8,6 +8,7 @@ from typing import Optional
 
 from . import refused, tree
 from .faults import Report, listed, nearest
+from .foreign import foreign_at, mended
 from .lexing import Lexer, Word
 from .tables import Stopped, grammar
 from .testing import tree as tests
@@ -17,11 +18,13 @@ from .words import in_place
 # A text with more than so many faults of this kind is read no further.
 MOST_FAULTS = 20
 BEGINS = {
-    "STATE", "INPUT", "OUTPUT", "LOGICAL", "TIMER", "REACTION", "CONST", "REACTOR", "MAIN", "ATTRIBUTE", "LET", "IF",
+    "STATE", "INPUT", "OUTPUT", "LOGICAL", "TIMER", "REACTION", "CONST", "REACTOR", "MAIN", "ATTRIBUTE", "LET", "VAR", "IF",
     "TEST", "EXPECT", "WITHDRAW", "DRAW", "ASK",
 }
 ENDS = {"SEMICOLON", "BODY", "LBRACE", "RBRACE", "TEST"}
 TOLD_IN_TESTS = ("SEMICOLON", "NAME", "NUMBER", "RBRACE")
+# Behind these stands no body, but a type, a value or a part of other languages.
+NO_BODIES = ("preamble", ":", "=", "(", ",")
 WORDS = {
     "SEMICOLON": "`;`", "LPAR": "`(`", "RPAR": "`)`", "LBRACE": "`{`", "RBRACE": "`}`", "COMMA": "`,`", "COLON": "`:`",
     "EQUALS": "`=`", "DOT": "`.`", "ARROW": "`->`", "BODY": "`{= .. =}`", "NAME": "a name", "NUMBER": "a number",
@@ -37,6 +40,19 @@ def _start(words: Sequence[Word], number: int) -> int:
     start = number
     while start > 0 and words[start - 1].kind not in ENDS and (start == number or words[start].kind not in BEGINS):
         start -= 1
+    return _loop_around(words, start) if words[start - 1].kind == "SEMICOLON" else start
+
+
+def _loop_around(words: Sequence[Word], start: int) -> int:
+    """Where the loop begins in whose brackets a word stands; the word's own place where it stands in none."""
+    depth = 0
+    for place in range(start - 1, 0, -1):
+        kind = words[place].kind
+        depth += (kind == "RPAR") - (kind == "LPAR")
+        if depth < 0:
+            return place - 1 if words[place - 1].kind in ("FOR", "WHILE") else start
+        if kind in ("LBRACE", "RBRACE", "BODY"):
+            break
     return start
 
 
@@ -61,6 +77,7 @@ def _without(words: list[Word], stopped: int) -> list[Word]:
     end = _end(words, start, stopped)
     while words[end].kind == "ELSE" and end < len(words) - 1:
         end = _end(words, end, end + 1)
+    end += words[end - 1].kind == "BODY" and words[end].kind == "SEMICOLON"
     return words[:start] + words[end:]
 
 
@@ -76,9 +93,9 @@ class Parser:
         """The tree; None where its structure has a fault. Bodies are read in any case."""
         words = in_place(collapsed(Lexer(self.text, grammar().kinds, self.before).words()))
         grammar().builder.may_need_later = False
-        for it in words:
+        for before, it in zip([words[0], *words], words):
             if it.kind == "BODY":
-                it.value = self._body(it)
+                it.value = () if before.text in NO_BODIES else self._body(it)
         made = self._parsed(words, "file", refused.STRUCTURE)
         return replace(made, may_need_later=grammar().builder.may_need_later) if self.is_whole and made else None
 
@@ -118,9 +135,12 @@ class Parser:
         if word.kind == "UNCLOSED":
             self.report.error(word.at, "this comment is never closed", "`*/` ends it")
             return []
-        foreign = _foreign(words, number, table)
+        start = _start(words, number)
+        foreign = foreign_at(words, number, start, table)
         if foreign:
             self.report.error(foreign[0].at, *foreign[1])
+            if not in_body and (found := mended(words, number, start)):
+                return found
         elif in_body and _lacks_semicolon(words, stopped, table) and not _misspelt(words, stopped, table):
             self.report.error(before.end, "`;` is missing here")
             return [*words[:number], Word("SEMICOLON", ";", before.line, before.column), *words[number:]]
@@ -174,27 +194,6 @@ def _telling(accepted: Collection[str], table: dict) -> list[str]:
 def _is_word(word: Word) -> bool:
     """Whether this is a word of the language."""
     return word.kind != "NAME" and word.text.isidentifier()
-
-
-def _foreign(words: Sequence[Word], number: int, table: dict) -> Optional[tuple]:
-    """A word that is not of this language, where it begins or near where it stopped, with what to say of it."""
-    start = _start(words, number)
-    if words[start].kind == "STATE":
-        before = words[number - 1]
-        if "[" in (words[number].text, before.text):
-            return (words[number] if words[number].text == "[" else before), refused.SIDES
-        if before.text == "(" or words[number].text == "(":
-            last = words[number + (words[number].text == "(")]
-            return (before if before.text == "(" else words[number]), ("a start stands behind `=`", f"write `= {last}`")
-    if words[start].text in refused.BEGINNINGS and words[start].kind != "NAME":
-        return words[start], refused.BEGINNINGS[words[start].text]
-    if table is refused.STRUCTURE and (words[number].kind, words[number - 1].text) == ("STRING", "test"):
-        return words[number - 1], refused.TEST_INSIDE
-    for word in (words[start], words[number], words[max(number - 1, 0)]):
-        key = {"STRING": '"', "ATTRIBUTE": "@"}.get(word.kind, word.text)
-        if key in table and word.text != "@origin" and word.kind != "BODY":
-            return word, table[key]
-    return None
 
 
 def _misspelt(words: Sequence[Word], stopped: Stopped, table: dict) -> Optional[tuple[Word, str]]:

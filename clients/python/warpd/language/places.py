@@ -7,11 +7,11 @@ from collections.abc import Collection, Sequence
 from typing import NamedTuple, Optional
 
 from . import tree
-from .faults import Report, nearest
+from .faults import Report, as_written, nearest
 from .hierarchy import Node
 from .model import Program
 from .scope import Kind
-from .types import INT, Type
+from .types import INT, Struct, Type
 
 
 class Point(NamedTuple):
@@ -21,11 +21,18 @@ class Point(NamedTuple):
     name: str
 
     def __str__(self) -> str:
-        return f"{self.node.title}.{self.name}" if self.node.path else self.name
+        name = as_written(self.name)
+        return f"{self.node.title}.{name}" if self.node.path else name
+
+    @property
+    def declared(self) -> Type:
+        """The type of the port whose channel or field this is."""
+        return self.node.raw.scope.types.get(self.name.split("[")[0], INT)
 
     @property
     def type(self) -> Type:
-        return self.node.raw.scope.types.get(self.name.split("[")[0], INT)
+        of = self.declared
+        return of.fields[self.name.split("[")[1][:-1]] if isinstance(of, Struct) else of
 
     def seen_from(self, node: Node) -> str:
         """What the port is called in a node that has it, or contains its node."""
@@ -94,7 +101,7 @@ class Places:
         if not nodes or not all(it.is_known for it in nodes) or not self._is_there(nodes[0], place, kind):
             return []
         found = [self.of(it, place) for it in nodes]
-        if place.is_interleaved:
+        if place.is_interleaved and not nodes[0].struct(place.name.text):
             most = max(map(len, found))
             return [it[number] for number in range(most) for it in found if number < len(it)]
         return [it for points in found for it in points]

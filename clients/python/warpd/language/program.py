@@ -117,7 +117,7 @@ class Forms:
 
     def _forms(self, root: Node) -> None:
         for node in root.every():
-            if not has_structure(node.raw.tree):
+            if not has_structure(node.raw):
                 if not node.raw.is_checked:
                     checked(node.raw, self.report)
                 node.form = node.raw

@@ -11,7 +11,7 @@ from .model import Class, Program
 from .naming import MOST_LETTERS, is_told
 from .routines import RoutineCheck
 from .scope import Kind, Scope
-from .types import INT, Array, Struct
+from .types import INT, Array, Struct, Type
 
 KINDS = {tree.State: Kind.VARIABLE, tree.Action: Kind.ACTION, tree.Timer: Kind.TIMER}
 
@@ -33,7 +33,7 @@ def declared(it: tree.Reactor, program: Program, report: Report, constants: Iter
             scope.constant(parameter.default, type)
         scope.declare(parameter.name, Kind.PARAMETER, type)
     for member in it.members:
-        _declare(scope, member)
+        _declare(scope, member, it.is_main)
         if not it.is_main and isinstance(member, tree.Ports):
             _not_in_main(report, member)
     scope.kinds["startup"] = Kind.STARTUP
@@ -64,16 +64,29 @@ def checked(one: Class, report: Report) -> Class:
     return one
 
 
-def _declare(scope: Scope, member: tree.Member) -> None:
+def _declare(scope: Scope, member: tree.Member, is_main: bool) -> None:
     if type(member) in KINDS:
         is_state = isinstance(member, tree.State)
-        its = INT if isinstance(member, tree.Timer) else scope.type(member.type, not is_state, is_state)
+        its = INT if isinstance(member, tree.Timer) else scope.type(member.type, False, True) if is_state else _type_of_action(scope, member)
         scope.declare(member.name, KINDS[type(member)], its)
     elif isinstance(member, tree.Ports):
-        its = scope.type(member.type)
+        its = scope.type_of_port(member.type, member.width is not None)
         for place in member.places:
+            if place.indices and not place.owner and not is_main:
+                word = "input" if member.is_input else "output"
+                text, hint = "the width of a multiport stands before its name", f"write `{word}[..] {place.name.text}: int`"
+                scope.report.error(place.at, text, hint)
             if not place.owner:
                 scope.declare(place.name, Kind.INPUT if member.is_input else Kind.OUTPUT, its)
+
+
+def _type_of_action(scope: Scope, it: tree.Action) -> Type:
+    found = scope.type_of_port(it.type, it.width is not None)
+    if it.is_in_mode and (it.width is not None or isinstance(found, Struct)):
+        text = f"`{it.name.text}` is an action of a mode: it has a number"
+        scope.report.error(it.name.at, text, "let an action outside of modes have arrays and structs")
+        return INT
+    return found
 
 
 def _member(scope: Scope, member: tree.Member) -> None:

@@ -38,7 +38,11 @@ class Routine:
             return returns and not always_leaves(it.yes) and not always_leaves(it.no)
 
         body = [*every(self.tree.body or ())]
-        return not self.changes and not any(isinstance(it, (tree.Loop, tree.While)) or may_go_on(it) for it in body)
+        def is_variable(it: tree.Statement) -> bool:
+            return isinstance(it, tree.Let) and it.is_variable
+
+        is_open = any(isinstance(it, (tree.Loop, tree.While)) or is_variable(it) or may_go_on(it) for it in body)
+        return not self.changes and not is_open
 
 
 class RoutineCheck(BodyCheck):
@@ -66,6 +70,10 @@ class RoutineCheck(BodyCheck):
     def is_declared(self, name: str, at: At) -> None:
         hint = f"hand it on: `{self.routine.name}({name})`"
         self.report.error(at, f"`{name}` is {self.kind_of(name).value}: a method speaks of state variables", hint)
+
+    def reads_output(self, name: str, at: At) -> None:
+        hint = f"hand it on: `{self.routine.name}({name})`"
+        self.report.error(at, f"`{name}` is an output: a method speaks of state variables", hint)
 
     def is_effect(self, name: str, at: At) -> None:
         hint = "let it return a value, and put or schedule that in the reaction"
@@ -121,7 +129,7 @@ def _ordered(found: Mapping[str, Routine], known: Mapping[str, Routine], report:
                 report.error(call.name.at, text, "a function is put in where it is called: it has no recursion")
             if other in known and known[other] is not routine:
                 routine.changes |= known[other].changes
-        routine.changes |= any(isinstance(it, tree.Assign) for it in every(routine.tree.body or ()))
+        routine.changes |= _assigns(routine.tree.body or ())
         state[name] = True
         ordered.append(routine)
 
@@ -129,6 +137,14 @@ def _ordered(found: Mapping[str, Routine], known: Mapping[str, Routine], report:
         if name not in state:
             visit(name)
     return ordered
+
+
+def _assigns(statements: Iterable[tree.Statement]) -> bool:
+    """Whether something is assigned that is there behind the call."""
+    inside = [*every(statements)]
+    own = {it.name.text for it in inside if isinstance(it, tree.Let) and it.is_variable}
+    targets = [it.name for it in inside if isinstance(it, tree.Assign)]
+    return any((it if isinstance(it, tree.Name) else it.owner or it.name).text not in own for it in targets)
 
 
 def every(statements: Iterable[tree.Statement]) -> Iterator[tree.Statement]:
@@ -151,11 +167,11 @@ def calls(statements: Iterable[tree.Statement]) -> Iterator[tree.Call]:
         match it:
             case tree.Let() | tree.Assign():
                 yield from calls_in(it.value)
-            case tree.Invoke():
-                yield from calls_in(it.call)
                 if isinstance(it, tree.Assign) and isinstance(it.name, tree.Place):
                     for part in (*it.name.owner_indices, *it.name.indices):
                         yield from calls_in(part)
+            case tree.Invoke():
+                yield from calls_in(it.call)
             case tree.If() | tree.While():
                 yield from calls_in(it.test)
             case tree.Loop():

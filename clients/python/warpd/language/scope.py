@@ -29,6 +29,7 @@ class Kind(Enum):
     PARAMETER = "a parameter"
     CONSTANT = "a constant"
     LET = "a `let`"
+    LOCAL = "a variable of this body"
     GIVEN = "a parameter of this function"
     TURN = "the number of a loop's turn"
     ROUTINE = "a function"
@@ -76,6 +77,9 @@ class Scope:
         self.types: dict[str, Type] = {}
         self.named: dict[str, Type] = dict(NAMED)
         self.routines: dict[str, Routine] = {}
+        self.enums: set[str] = set()
+        # The outputs of which a reaction reads what was put on them at its tag, each with the first place of the text.
+        self.read_outputs: dict[str, At] = {}
         # Of a state variable that is a struct: the variables of its fields.
         self.fields: dict[str, dict[str, str]] = {}
         self.is_reactor = False
@@ -94,7 +98,7 @@ class Scope:
         """A scope of a reactor, which sees what this one has."""
         inner = Scope(self.report, self.unit, self.kinds)
         inner.types, inner.named, inner.routines = dict(self.types), self.named, dict(self.routines)
-        inner.is_reactor = True
+        inner.is_reactor, inner.enums = True, self.enums
         return inner
 
     def group(self, name: str, struct: Struct, sides: tuple = ()) -> None:
@@ -187,14 +191,32 @@ class Scope:
             near = refused.TYPES.get(it.text, near)
             self.report.error(it.at, f"there is no type `{it.text}`", near)
         elif is_number and isinstance(found, Struct):
-            text = f"`{it.text}` is a struct: only state variables and what is named in bodies have structs"
+            text = f"`{it.text}` is a struct: only state variables, ports, actions and what is named in bodies have structs"
             self.report.error(it.at, text, "write one for each of its fields")
+        if found is None and it.text in refused.WITH_POINT:
+            return FIXED
         return INT if found is None or is_number and isinstance(found, Struct) else found
+
+    def type_of_port(self, it: Optional[tree.Name], is_wide: bool = False) -> Type:
+        """The type of a port or an action: a struct of numbers may be one, where it has no width."""
+        found = self.type(it, is_number=False)
+        if not isinstance(found, Struct):
+            return found
+        if is_wide:
+            self.report.error(it.at, f"`{found}` is a struct: a multiport, or an array, has numbers here", "write one for each of its fields")
+        elif any(isinstance(each, Array) for each in found.fields.values()):
+            self.report.error(it.at, f"`{found}` has an array: a port has numbers, or a struct of numbers")
+        else:
+            return found
+        return INT
 
     def _array(self, it: tree.Sized, is_number: bool, is_array: bool) -> Type:
         of = self.type(tree.Name(it.text, it.at), is_number)
+        if not is_array and it.sides == (None,):
+            self.report.error(it.at, "nothing says how many cells this array has", f"write `{it.text}[3]`")
+            return of
         if not is_array:
-            text = "only state variables, constants, parameters, fields, and ports without a width have arrays"
+            text = "only state variables, constants, parameters and fields have arrays; ports and actions have those of one side"
             self.report.error(it.at, f"`{it.text}{'[]' * len(it.sides)}` is an array: {text}")
             return of
         if len(it.sides) > MOST_SIDES:
@@ -241,7 +263,8 @@ class Scope:
     def listed(self, it: tree.List, wanted: Optional[Type]) -> Type:
         """Checks a list of values: of an array, and in it of its lines."""
         if not isinstance(wanted, Array) or isinstance(wanted.of, Struct):
-            self.report.error(it.at, "a list stands only where an array of numbers begins", "write `state a: int[3] = {1, 2, 3};`")
+            hint = f"write `{wanted}(..)`" if isinstance(wanted, Struct) else "write `state a: int[3] = {1, 2, 3};`"
+            self.report.error(it.at, "a list stands only where an array of numbers begins", hint)
             return INT if wanted is None else wanted
         for part in it.parts:
             if isinstance(part, tree.List):
@@ -321,7 +344,8 @@ class Scope:
             return FIXED
         if not re.fullmatch(r"0|[1-9][0-9]*", it.text):
             hint = "a number has digits alone, and begins with no 0; of a `fixed` one a dot stands between digits"
-            self.report.error(it.at, f"`{it.text}` is no number", hint)
+            plain = refused.plain_number(it.text)
+            self.report.error(it.at, f"`{it.text}` is no number", f"write `{plain}`" if plain else hint)
         elif len(it.text) > len(str(most)) or int(it.text) > most:
             self.past_64_bits(it.text, it.at)
         return INT
@@ -376,7 +400,9 @@ class Scope:
             return self.tag(it, body)
         if not place.owner:
             return self.element(self._indexed(place, body), place, place.indices, body)
-        if body is None:
+        if place.owner.text in self.enums and not place.indices:
+            self.report.error(it.at, *(text.format(place.owner.text, place.name.text) for text in refused.OF_ENUM))
+        elif body is None:
             self.report.error(it.at, f"`{place}`: here belongs what is constant", "parameters and `const` are")
         else:
             owner, name = place.owner, place.name.text
@@ -384,7 +410,9 @@ class Scope:
             if kind in TRIGGERS and name in refused.PARTS:
                 self.report.error(it.at, *(text.format(owner.text) for text in refused.PARTS[name]))
                 return INT
-            if kind is None and not place.indices and not place.owner_indices:
+            if name in refused.WIDTHS and f"{owner.text}_width" in self.kinds:
+                self.report.error(it.at, *(text.format(owner.text, name) for text in refused.OF_WIDTH))
+            elif kind is None and not place.indices and not place.owner_indices:
                 self.report.error(it.at, *(text.format(owner.text) for text in refused.NO_INSTANCE))
             elif kind is None:
                 self.no_array(place, it.at)
@@ -498,8 +526,7 @@ class Scope:
         elif self.kinds.get(part.name) is None:
             self.unknown(part.name, part.at, TRIGGERS)
         elif self.kinds[part.name] is Kind.OUTPUT:
-            text = f"`{part.name}` is an output: whether something is on it cannot be read"
-            self.report.error(part.at, text, "keep in a state variable that you put something on it")
+            body.reads_output(part.name, part.at)
         elif self.kinds[part.name] not in TRIGGERS:
             self.report.error(part.at, f"`{part.name}` is {self.kinds[part.name].value}: it is always there")
         else:

@@ -45,6 +45,8 @@ class Sources:
         # Of a reactor that is compiled: what it was with its modes.
         self.written: dict[int, tree.Reactor] = {}
         self.extended: set[str] = set()
+        # Where `history` leads to modes with timers.
+        self.resumed: list[At] = []
 
     def read(self, text: str) -> Optional[tree.File]:
         """All that the text has, and what it imports; None where its structure has a fault. Of imported files the
@@ -158,7 +160,7 @@ class Sources:
                 found = {id(each): each for base in bases for each in getattr(base, part)}
                 lists[part] = (*found.values(), *getattr(it, part))
             written = replace(it, extends=(), **lists)
-            self.whole[id(it)] = without_modes(written, self.report)
+            self.whole[id(it)] = without_modes(written, self.resumed, self.report)
             self.written[id(self.whole[id(it)])] = written
         return self.whole[id(it)]
 

@@ -16,7 +16,7 @@ from . import tree
 from .arrays import started
 from .faults import Report
 from .keeping import Fork, Keep, Keeper, Repeat, Step
-from .lowering import Made, Maker, binary, converted
+from .lowering import NOW, Echo, Made, Maker, binary, converted
 from .routines import Routine, calls, every, references
 from .tree import At
 from .types import INT, Array, Struct, Type
@@ -100,6 +100,8 @@ class Body(Maker):
         self.left, self.parts = parts.left, parts
         self.base = names, types
         self.routines, self.outputs = routines, outputs
+        # The outputs that are read, by what the program file calls them.
+        self.echoed: dict[str, Echo] = {}
         self.values: list[tuple[At, Value]] = []
         self.delays: list[tuple[At, int]] = []
         self.out: list = []
@@ -208,12 +210,12 @@ class Body(Maker):
                 self._assign(it)
             case tree.Invoke(tree.Call(tree.Name("put"), (output, value))):
                 to = self.names.get(output.name, output.name)
-                self._step("put", to, self.value(value, self.types.get(output.name, INT)), value.at)
+                self._put(to, self.value(value, self.types.get(output.name, INT)), value.at)
             case tree.Invoke(tree.Call(tree.Name("request_stop", at))):
                 self._step("stop", "", 1, at)
             case tree.Invoke(tree.Call(tree.Name("schedule"), (action, delay, *value))):
                 made_ = self.value(value[0], self.types.get(action.name, INT)) if value else 0
-                return self._schedule(action.name, delay, made_, (value or [delay])[0].at)
+                return self._schedule(self.names.get(action.name, action.name), delay, made_, (value or [delay])[0].at)
             case tree.Invoke(call):
                 self.called(call)
             case tree.If():
@@ -234,14 +236,33 @@ class Body(Maker):
     def _set(self, target: Union[str, Cell, Slot], value: Value, at: At) -> None:
         if isinstance(target, Slot):
             self.out.append(Step("setat", target.array, value, at, 0, target.place))
+        elif target in self.outputs:
+            self._put(target, value, at)
         else:
-            self._step("put" if target in self.outputs else "set", target, value, at)
+            self._step("set", target, value, at)
+
+    def _put(self, output: str, value: Value, at: At) -> None:
+        """Puts a value, and keeps it where it is read again."""
+        echo = self.echoed.get(output)
+        if echo:
+            self._step("set", echo.value, value, at)
+            self._step("set", echo.tag, NOW, at)
+        self._step("put", output, echo.value if echo else value, at)
 
     def _let(self, it: tree.Let) -> None:
         made_, type = self.typed(it.value)
         wanted = self.named[it.type.text] if it.type else type
-        self.names[it.name.text] = self._named(converted(made_, type, wanted), it.value.at)
+        value, at = converted(made_, type, wanted), it.value.at
+        self.names[it.name.text] = self._variable(value, at) if it.is_variable else self._named(value, at)
         self.types[it.name.text] = wanted
+
+    def _variable(self, value: Made, at: At) -> Made:
+        """A variable of the body that begins with a value."""
+        if isinstance(value, dict):
+            return {name: self._variable(each, at) for name, each in value.items()}
+        cell = Cell(at)
+        self._step("set", cell, value, at)
+        return cell
 
     def _assign(self, it: tree.Assign) -> None:
         target, type = self._target(it.name)
@@ -279,7 +300,8 @@ class Body(Maker):
     def _target(self, it: Union[tree.Name, tree.Place]) -> tuple[Target, Type]:
         """What is assigned, and its type. Which cell of an array it is is worked out here, and once."""
         if isinstance(it, tree.Name):
-            return Maker.typed(self, tree.Reference(it.text, it.at))
+            self.left -= 1
+            return self.names.get(it.text, it.text), self.types.get(it.text, INT)
         found, type = self.found(it, it.at)
         indices = [self.value(each) for each in (*it.owner_indices, *it.indices)]
         if not indices:
@@ -533,9 +555,9 @@ class Body(Maker):
         given = [self._named(self.value(part, type), part.at) for part, (_, type) in zip(it.parts, routine.parameters)]
         if any(each.name.text == routine.name for each in self.calling):
             return 0, INT
-        before = self.names, self.types, self.labels, self.result, self.counted
+        before = self.names, self.types, self.labels, self.result, self.counted, self.echoes
         self.names, self.types = ({**base} for base in self.base)
-        self.counted = {}
+        self.counted, self.echoes = {}, {}
         for (name, type), value in zip(routine.parameters, given):
             self.names[name], self.types[name] = value, type
         self.calling.append(it)
@@ -544,7 +566,7 @@ class Body(Maker):
         else:
             made_ = self._performed(routine, it.at)
         self.calling.pop()
-        self.names, self.types, self.labels, self.result, self.counted = before
+        self.names, self.types, self.labels, self.result, self.counted, self.echoes = before
         return made_, routine.type or INT
 
     def _performed(self, routine: Routine, at: At) -> Made:

@@ -144,9 +144,12 @@ Expression = Union[Number, Duration, Reference, Member, Unary, Binary, Choice, C
 
 @dataclass(frozen=True)
 class Let:
+    """`let name = value;`, or `var name = value;`, which may be assigned."""
+
     name: Name
     type: Optional[Name]
     value: Expression
+    is_variable: bool = False
 
 
 @dataclass(frozen=True)
@@ -279,10 +282,15 @@ class Ports:
 
 @dataclass(frozen=True)
 class Action:
+    """`width` is that of an array, `is_own` says that it is the compiler's own, `is_in_mode` that a mode has it."""
+
     name: Name
     arguments: tuple[Expression, ...]
     type: Optional[Name]
     called: str = ""
+    is_own: bool = False
+    width: Optional[Expression] = None
+    is_in_mode: bool = False
 
 
 @dataclass(frozen=True)

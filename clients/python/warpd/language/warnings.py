@@ -2,7 +2,8 @@
 
 from __future__ import annotations
 
-from collections.abc import Callable, Sequence
+import re
+from collections.abc import Callable, Iterator, Sequence
 from math import prod
 from typing import Optional
 
@@ -10,7 +11,7 @@ from .faults import Report, channels_told, listed, port_of
 from .model import Class, Instance, Port, Program
 from .pending import warn_of_lost
 from .scope import Kind
-from .tree import At, Expression, Name, Number, Reference, State, Unary
+from .tree import Action, At, Block, Call, Expression, If, Invoke, Leave, Loop, Name, Number, Reference, State, Statement, Unary, While
 
 
 def warn(program: Program, report: Report) -> None:
@@ -27,6 +28,38 @@ def warn(program: Program, report: Report) -> None:
     elif lacking:
         text = f"origin {lacking[0]} has no inputs: it holds the horizon at (0, 0)"
         report.warning(program.at, f"{text} until somebody announces for it")
+
+
+def _twice(body: Sequence[Statement], known: set[str], actions: set[str]) -> Iterator[tuple[str, At]]:
+    """The actions of these that are scheduled where they surely were for the same tag, and where. `known` takes what surely was."""
+    for it in body:
+        match it:
+            case Invoke(Call(Name("schedule"), (Reference(name), delay, *_)) as call) if name in actions:
+                key = f"{name} {_without_places(delay)}"
+                if key in known:
+                    yield name, call.at
+                known.add(key)
+            case Block():
+                yield from _twice(it.statements, known, actions)
+            case If():
+                ways = [(branch, {*known}) for branch in (it.yes, it.no)]
+                for branch, inside in ways:
+                    yield from _twice(branch, inside, actions)
+                # What leaves a branch is not behind it.
+                left = [inside for branch, inside in ways if not (branch and isinstance(branch[-1], Leave))]
+                known |= set.intersection(*left) if left else set()
+            case Loop() | While():
+                inside, found = {*known}, []
+                for _ in range(1 if any(isinstance(each, Leave) for each in it.body) else 2):
+                    # A delay that the turn's number is part of is another one in the next turn.
+                    inside = {key for key in inside if isinstance(it, While) or f"'{it.first.name.text}'" not in key}
+                    found = [*_twice(it.body, inside, actions)]
+                yield from found
+
+
+def _without_places(it: object) -> str:
+    """An expression as it is written, wherever it stands."""
+    return re.sub(r"At\([^()]*\)", "", repr(it))
 
 
 class ClassWarnings:
@@ -46,6 +79,11 @@ class ClassWarnings:
         self._cells()
         for names in self._multiports():
             self._outputs(names)
+        actions = {it.name.text for it in self.one.tree.every(Action) if not it.is_own}
+        for check in self.one.reactions:
+            for name, at in _twice(check.reaction.body or (), set(), actions):
+                text = f"`{name}` is scheduled for the same tag again: the last value counts, and the others are lost"
+                self.report.warning(at, text, "let its reaction schedule the next one")
         for number, check in enumerate(self.one.reactions):
             at = check.reaction.at
             never = "nothing comes to what triggers it"

@@ -1,5 +1,5 @@
 """Words that mean something in one place alone, and are names in all others: `import`, `from`, `as`, `extends` ...;
-and in bodies `while` before its bracket, and `most` in one."""
+and in bodies `while` before its bracket, `most` in one, and `var` before a name."""
 
 from __future__ import annotations
 
@@ -10,7 +10,7 @@ from .tree import Name
 
 SOFT = {"IMPORT", "FROM", "AS", "EXTENDS", "INTERLEAVED", "INITIAL", "MODE", "RESET", "HISTORY"}
 # Those of bodies, and what a statement begins behind.
-INNER = {"WHILE", "MOST"}
+INNER = {"WHILE", "MOST", "VAR"}
 BEFORE_STATEMENT = {"", "SEMICOLON", "LBRACE", "RBRACE", "RPAR", "ELSE"}
 
 
@@ -36,8 +36,10 @@ def in_place(words: list[Word]) -> list[Word]:
 
 
 def _has_place_in_body(words: Sequence[Word], number: int, before: str) -> bool:
-    """Whether `while` or `most` stands where it means something; the words of a body end with one that is none."""
+    """Whether such a word stands where it means something; the words of a body end with one that is none."""
     behind = words[number + 1].kind
+    if words[number].kind == "VAR":
+        return (behind in INNER or _is_word(behind)) and before in BEFORE_STATEMENT
     if words[number].kind == "WHILE":
         return behind == "LPAR" and before in BEFORE_STATEMENT
     return before == "SEMICOLON" and behind in ("NAME", "NUMBER")

@@ -9,6 +9,7 @@ use crate::file::{PortName, Reactor};
 use crate::name::Name;
 use crate::named::is_same;
 use crate::role::Role;
+use crate::shape::json::is_one_of;
 use serde_json::Value;
 use std::alloc::{AllocError, Global};
 
@@ -125,6 +126,9 @@ fn write_unread(
     write_word(alloc, text, word, vocabulary.kind)?;
     if let Some(form) = vocabulary.instead_of(word) {
         return push_all(text, &[" (write ", form, ")"]);
+    }
+    if is_one_of(vocabulary.later, word) {
+        return text.push_str(" (version 4 has it)");
     }
     let mut nearest = Nearest::new(alloc, word);
     for other in vocabulary.words {

@@ -9,6 +9,8 @@ pub(crate) struct Vocabulary {
     pub words: &'static [&'static str],
     /// Words of other languages.
     pub foreign: &'static [Foreign],
+    /// Words that came with version 4, in a file of another one.
+    pub later: &'static [&'static str],
 }
 
 /// A word of other languages, and what to write here.
@@ -25,6 +27,7 @@ const FILE: Vocabulary = Vocabulary {
         "version", "stop", "origins", "reactors", "links", "inputs", "outputs",
     ],
     foreign: &[],
+    later: &["begin"],
 };
 
 /// The keys of a reactor.
@@ -40,6 +43,7 @@ const REACTOR: Vocabulary = Vocabulary {
         "reactions",
     ],
     foreign: &[],
+    later: &["arrays", "called", "hidden"],
 };
 
 /// The keys of a file of version 4.
@@ -47,6 +51,7 @@ const LATER_FILE: Vocabulary = Vocabulary {
     words: &[
         "version", "stop", "origins", "begin", "reactors", "links", "inputs", "outputs",
     ],
+    later: &[],
     ..FILE
 };
 
@@ -64,6 +69,7 @@ const LATER_REACTOR: Vocabulary = Vocabulary {
         "called",
         "hidden",
     ],
+    later: &[],
     ..REACTOR
 };
 
@@ -72,6 +78,7 @@ pub(crate) const BEGIN: Vocabulary = Vocabulary {
     kind: "no key of a beginning",
     words: &["pending", "lost", "since"],
     foreign: &[],
+    later: &[],
 };
 
 /// The keys of a file of version 4, or of another one.
@@ -103,6 +110,7 @@ pub(crate) const REACTION: Vocabulary = Vocabulary {
     kind: "no key of a reaction",
     words: &["on", "reads", "writes", "body"],
     foreign: &[],
+    later: &[],
 };
 
 /// The first words of statements.
@@ -119,6 +127,7 @@ const STATEMENTS: Vocabulary = Vocabulary {
             write: "[\"set\", variable, expression]",
         },
     ],
+    later: &["setat", "while"],
 };
 
 /// The first words of expressions that are longer than a byte.
@@ -171,11 +180,15 @@ const OPERATORS: Vocabulary = Vocabulary {
             write: "[\"not\", a]",
         },
     ],
+    later: &[
+        "mix", "muldiv", "at", "time", "micro", "&", "|", "^", "<<", ">>",
+    ],
 };
 
 /// The first words of statements of version 4.
 const LATER_STATEMENTS: Vocabulary = Vocabulary {
     words: &["set", "put", "schedule", "if", "setat", "while"],
+    later: &[],
     ..STATEMENTS
 };
 
@@ -224,6 +237,7 @@ const LATER_OPERATORS: Vocabulary = Vocabulary {
             write: "[\"^\", a, -1]",
         },
     ],
+    later: &[],
 };
 
 impl Vocabulary {

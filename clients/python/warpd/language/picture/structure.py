@@ -200,10 +200,11 @@ class Structure:
             if it.origin not in origins:
                 label, title = f"origin {it.origin}", f"what origin {it.origin} sends"
                 origins[it.origin] = self.box.add(Item("origin", label, label, title=title))
-            end = End(self.nodes[_path(it.point.node)], name)
+            # A bank is one: each origin has one line to a port of it.
+            ends = End(origins[it.origin]), End(self.nodes[_path(it.point.node)], name)
             title = f"input {number}: {_told(it.point)}, of origin {it.origin}"
-            if all(line.target != end for line in self.box.lines):
-                self.box.lines.append(Line(CONNECTION, End(origins[it.origin]), end, title))
+            if all((line.source, line.target) != ends for line in self.box.lines):
+                self.box.lines.append(Line(CONNECTION, *ends, title))
         exits: dict[tuple, Item] = {}
         for number, it in enumerate(net.exits):
             key = (_path(it.point.node), _name(it.point))

@@ -20,10 +20,10 @@ KINDS = {
     "reactor": "a reactor", "parameter": "a parameter", "state": "a state variable", "input": "an input",
     "output": "an output", "action": "a logical action", "timer": "a timer", "instance": "an instance",
     "mode": "a mode", "method": "a method", "constant": "a constant", "enum": "an enum", "enumerator": "a constant",
-    "struct": "a struct", "field": "a field", "function": "a function", "given": "a parameter", "let": "a `let`",
+    "struct": "a struct", "field": "a field", "function": "a function", "given": "a parameter", "let": "a `let`", "var": "a variable of this body",
     "turn": "the number of a loop's turn", "alias": "an imported reactor",
 }
-LOCAL = ("given", "let", "turn")
+LOCAL = ("given", "let", "var", "turn")
 MOST_TOLD = 6
 # The kinds of symbols of the protocol.
 OUTLINED = {
@@ -202,8 +202,8 @@ def _what(it: Symbol) -> str:
         what = f"a multiport of {it.kind}s"
     if it.kind == "instance" and it.of:
         what = f"{'a bank of instances' if it.is_bank else what} of `{text_of(it.of)}`"
-    if it.kind in ("state", "parameter", "input", "output", "action", "let", "given", "field", "constant"):
-        type = text_of(it.type) if it.type else "int" if it.kind not in ("let", "constant") else ""
+    if it.kind in ("state", "parameter", "input", "output", "action", "let", "var", "given", "field", "constant"):
+        type = text_of(it.type) if it.type else "int" if it.kind not in ("let", "var", "constant") else ""
         what += f", `{type}`" * bool(type)
     if it.owner and it.owner.name and it.kind not in LOCAL:
         what += f", of `{it.owner.name}`" if it.kind != "instance" else f", in `{it.owner.name}`"
@@ -225,11 +225,11 @@ def written(it: Symbol) -> str:
         return f"{what}{it.name}" + (f": {text_of(it.type)}" if it.type else "")
     line = it.file.lines[it.begins.line - 1].rstrip("\r")
     text = line[it.begins.column - 1:]
-    if it.ends.line == it.begins.line and it.kind not in ("reactor", "mode", "function", "method", "let"):
+    if it.ends.line == it.begins.line and it.kind not in ("reactor", "mode", "function", "method", "let", "var"):
         text = text[:it.ends.column - it.begins.column]
     if it.kind in ("reactor", "mode", "struct", "function", "method"):
         text = text.split("{")[0] if it.kind != "struct" or "}" not in text else text
-    if it.kind == "let":
+    if it.kind in ("let", "var"):
         text = text.split(";")[0]
     return text.strip()
 

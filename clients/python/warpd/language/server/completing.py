@@ -20,7 +20,7 @@ from .workspace import Workspace
 PROPOSED = {
     "reactor": 7, "alias": 7, "parameter": 21, "state": 6, "input": 5, "output": 5, "action": 23, "timer": 23,
     "instance": 6, "mode": 20, "method": 2, "constant": 21, "enum": 13, "enumerator": 20, "struct": 22, "field": 5,
-    "function": 3, "given": 6, "let": 6, "turn": 6,
+    "function": 3, "given": 6, "let": 6, "var": 6, "turn": 6,
 }
 WORD, CALL, SNIPPET = 14, 3, 2
 MEMBERS = {
@@ -132,7 +132,7 @@ class Completing:
     def _in_body(self, program: Program, names: Names, path: Path, around: Around, place: Where) -> Iterator[dict]:
         lasts = [it.kind for it in around.before[-1:]]
         own = self._known(program, path, around.home, tuple(PROPOSED))
-        here = [it for it in names.symbols if it.kind in ("let", "turn", "given") and _is_before(it, around, place)]
+        here = [it for it in names.symbols if it.kind in ("let", "var", "turn", "given") and _is_before(it, around, place)]
         functions = [it for it in program.shared.values() if it.kind in ("function", "struct")]
         begins = not lasts or lasts[0] in ("SEMICOLON", "LBRACE", "RBRACE", "ELSE", "RPAR")
         more = _chain(_words(BODY_WORDS), _calls(STATEMENT_CALLS)) if begins else _words(("true", "false"))
@@ -232,7 +232,7 @@ def _connects(before: list[Word]) -> bool:
 
 def _is_choice(before: list[Word]) -> bool:
     for it in reversed(before):
-        if it.kind in ("QMARK", "SEMICOLON", "LBRACE", "LET", "STATE", "INPUT", "OUTPUT"):
+        if it.kind in ("QMARK", "SEMICOLON", "LBRACE", "LET", "VAR", "STATE", "INPUT", "OUTPUT"):
             return it.kind == "QMARK"
     return False
 

@@ -26,9 +26,10 @@ KEYWORDS = {
     "initial": "The mode in which a reactor begins.",
     "mode": "What a mode has counts in it alone; `set_mode(M)` leads to another at the next microstep.",
     "reset": "Begins anew: `-> reset(M)` a mode, `reset state` its variables, `reaction(reset)` when a mode does so.",
-    "history": "`-> history(M)`: the mode, whose variables are as they were.",
+    "history": "`-> history(M)`: the mode, which goes on as it was left.",
     "startup": "A trigger that is there at time 0 alone, and in a mode when it is entered for the first time.",
     "shutdown": "A trigger that is there at the last tag of the program.",
+    "var": "A variable of this body: `var n = 0;`, which may be assigned up to the end of the block.",
     "let": "A name for a value at this place, up to the end of the block. It is constant.",
     "if": "`if (E) S else S`: the first where E is not 0.",
     "else": "`if (E) S else S`: the first where E is not 0.",
@@ -85,7 +86,7 @@ TOP_WORDS = ("const", "import", "enum", "struct", "function", "main reactor", "r
 MEMBER_WORDS = (
     "state", "input", "output", "logical action", "timer", "reaction", "method", "mode", "initial mode", "reset state",
 )
-BODY_WORDS = ("let", "if", "else", "for", "while", "return", "break", "continue", "true", "false")
+BODY_WORDS = ("let", "var", "if", "else", "for", "while", "return", "break", "continue", "true", "false")
 STATEMENT_CALLS = ("put", "schedule", "request_stop", "set_mode")
 VALUE_CALLS = ("present", "min", "max", "abs", "clamp", "floor", "round", "fixed", "mix", "muldiv")
 TYPE_WORDS = ("int", "bool", "time", "fixed")

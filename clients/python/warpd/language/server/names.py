@@ -665,8 +665,8 @@ class Bodies:
     def _name(self, words: list[Word], place: int, before: str, behind: str) -> None:
         word = words[place]
         is_head = [it.kind for it in words[max(place - 2, 0):place]] == ["FOR", "LPAR"]
-        if before == "LET":
-            self._declare(word, "let", words[place - 1])
+        if before in ("LET", "VAR"):
+            self._declare(word, "let" if before == "LET" else "var", words[place - 1])
         elif is_head and behind == "EQUALS" or before == "NAME" and words[max(place - 2, 0)].kind == "LPAR":
             self._declare(word, "turn", word)
         elif is_head and behind == "NAME" or before == "COLON" and self.pending and not self.pending.has_value:

@@ -146,7 +146,7 @@ class Program:
         found = self.member(home, name) or self.shared.get(name)
         if found is None and name.endswith(WIDTH):
             wide = self.member(home, name.removesuffix(WIDTH))
-            return wide if wide and wide.kind in ("input", "output", "instance") else None
+            return wide if wide and wide.kind in ("input", "output", "instance", "action") else None
         return found
 
     def part(self, owner: Optional[Symbol], name: str) -> Optional[Symbol]:
@@ -154,7 +154,8 @@ class Program:
         if owner is None:
             return None
         if owner.kind == "instance":
-            return self.member(self.of_instance(owner), name)
+            of = self.of_instance(owner)
+            return self.member(of, name) or (self.member(of, name.removesuffix(WIDTH)) if name.endswith(WIDTH) else None)
         struct = self.struct(owner)
         return struct and struct.members.get(name)
 
@@ -168,7 +169,7 @@ class Program:
         if it.type:
             found = self.shared.get(text_of(it.type))
             return found if found and found.kind == "struct" else None
-        for use in it.values if it.kind == "let" and depth < 8 else ():
+        for use in it.values if it.kind in ("let", "var") and depth < 8 else ():
             found = None if use.has_member else self.symbol(use)
             struct = found and found.kind != "enumerator" and self.struct(found, depth + 1)
             if struct or found and found.kind in ("function", "method"):

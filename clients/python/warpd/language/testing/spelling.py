@@ -11,9 +11,10 @@ from .plan import ASK, Arrival, Expected, Puts
 from .subject import Subject, fixed
 
 BINDS = {
-    "||": 1, "&&": 2, "==": 3, "!=": 3, "<": 4, "<=": 4, ">": 4, ">=": 4, "+": 5, "-": 5, "*": 6, "/": 6, "%": 6,
+    "||": 1, "&&": 2, "|": 3, "^": 4, "&": 5, "==": 6, "!=": 6, "<": 7, "<=": 7, ">": 7, ">=": 7, "<<": 8, ">>": 8,
+    "+": 9, "-": 9, "*": 10, "/": 10, "%": 10,
 }
-UNARY, ATOM = 7, 8
+UNARY, ATOM = 11, 12
 
 
 def expression(it: tree.Expression, subject: Subject, around: int = 0) -> str:

@@ -1,5 +1,5 @@
 use Rattle.warp_replica.specs.Answered.{facts_of}
-use Rattle.warp_room.proofs.OpenLines.{answered, came, handed, heard, left, others_handed, others_heard, others_left}
+use Rattle.warp_room.proofs.OpenLines.{answered, came, handed, heard, left, others_handed, others_heard, others_left, own_said}
 use Rattle.warp_room.proofs.law.oldest_first.Goals as goal
 
 pub returns-clause-heard : goal.returns-clause-heard
@@ -25,3 +25,6 @@ returns-clause-others_left g c = others_left
 
 pub returns-clause-came : goal.returns-clause-came
 returns-clause-came g c = came (facts_of g.T.Timeline.settled g.T.Timeline.refused g.T.Timeline.floor g.T.Timeline.SLACK)
+
+pub returns-clause-own : goal.returns-clause-own
+returns-clause-own g c = own_said (facts_of g.T.Timeline.settled g.T.Timeline.refused g.T.Timeline.floor g.T.Timeline.SLACK)

@@ -1,4 +1,4 @@
-use Rattle.warp_service.proofs.PlaceLemmas.{begun, told, answered, returned, spoke}
+use Rattle.warp_service.proofs.PlaceLemmas.{anew, begun, told, answered, returned, spoke}
 use Rattle.warp_service.proofs.laws.places_are_kept.Goals as goal
 
 pub returns-clause-begun : goal.returns-clause-begun
@@ -15,3 +15,6 @@ returns-clause-returned c = returned
 
 pub returns-clause-spoke : goal.returns-clause-spoke
 returns-clause-spoke c = spoke
+
+pub returns-clause-anew : goal.returns-clause-anew
+returns-clause-anew c = anew

@@ -1,9 +1,9 @@
 use Rattle.std.proofs.Common.{Bool, List, sym, ap, subst, arith}
 use Rattle.std.proofs.lemmas.Bool.Decides.{nat_tests}
 use Rattle.warp_replica.specs.Answered.{facts_of}
-use Rattle.warp_replica.specs.History.{IsServed}
+use Rattle.warp_keep.specs.Keeping.{keeps}
 use Rattle.warp_room.specs.declared.answers.AnsweredLine.{AnsweredLine}
-use Rattle.warp_room.specs.Room.{history_of}
+use Rattle.warp_room.specs.Room.{AreHeld}
 use Rattle.warp_room.specs.Steps.{NeedsAll}
 use Rattle.warp_room.proofs.Serving.{kept_served, more_made, needs}
 use Rattle.warp_room.proofs.room.Room.serve.Goals as goal
@@ -11,18 +11,18 @@ use Rattle.warp_room.proofs.room.Room.serve.Goals as goal
 pub invariant_of-self-2 : goal.invariant_of-self-2
 invariant_of-self-2 g c =
     let facts = facts_of g.T.Timeline.settled g.T.Timeline.refused g.T.Timeline.floor g.T.Timeline.SLACK in
-    let r' = c.answer_line-answer.new.replica in
-    let one : AnsweredLine = record { who = c.in-Some.turn.who; said = c.in-Some.turn.line; answer = c.answer_line-answer.result } in
+    let r' = c.answer_or_keep_out-answer.new.replica in
+    let one : AnsweredLine = record { who = c.in-Some.turn.who; said = c.in-Some.turn.line; answer = c.answer_or_keep_out-answer.result } in
     let made = more_made c.self.inside.made.items c.reserve.new.self.items c.push_back_reserved.new.self.items one
     c.reserve.ensures.items c.push_back_reserved.ensures.items in
-    let kept = kept_served facts c.self.inside.replica r' c.self.inside.made.items one c.self.inside.shown c.self.inside.digest
-    c.self.invariant.0 c.self.invariant.1 c.self.invariant.2 c.answer_line-answer.ensures in
-    (subst (λ (l : List AnsweredLine). IsServed r'.program r'.records (history_of l)) (sym {A = List AnsweredLine} made) kept.0, kept.1, kept.2)
+    let kept = kept_served facts (keeps c.self.inside.keeping) c.self.inside.replica r' c.self.inside.made.items one c.self.inside.shown c.self.inside.digest
+    c.self.invariant.0 c.self.invariant.1 c.self.invariant.2 c.self.invariant.3 c.answer_or_keep_out-answer.ensures in
+    (subst (λ (l : List AnsweredLine). AreHeld r'.program r'.records l) (sym {A = List AnsweredLine} made) kept.0, kept.1, kept.2, kept.3)
 
 pub returns-clause-served : goal.returns-clause-served
 returns-clause-served g c =
     let facts = facts_of g.T.Timeline.settled g.T.Timeline.refused g.T.Timeline.floor g.T.Timeline.SLACK in
-    let one : AnsweredLine = record { who = c.in-Some.turn.who; said = c.in-Some.turn.line; answer = c.answer_line-answer.result } in
+    let one : AnsweredLine = record { who = c.in-Some.turn.who; said = c.in-Some.turn.line; answer = c.answer_or_keep_out-answer.result } in
     let made = more_made c.self.inside.made.items c.reserve.new.self.items c.push_back_reserved.new.self.items one
     c.reserve.ensures.items c.push_back_reserved.ensures.items in
     let found = c.in-Some.ensures.found in
@@ -40,13 +40,14 @@ returns-clause-served g c =
         turn = found.0;
         there = found.1.2;
         oldest = found.1.3;
-        answers = c.answer_line-answer.ensures;
+        comes = c.answer_or_keep_out-answer.ensures;
         takes = c.take_line.ensures found.1.0 c.in-Some.turn.line found.1.1 found.1.2 found.1.3;
         leaves = λ i. record {
-          replica = c.answer_line-answer.new.replica;
+          replica = c.answer_or_keep_out-answer.new.replica;
           queues = c.take_line.new.self;
           made = made i;
           shown = c.self.inside.shown;
+          keeping = c.self.inside.keeping;
           most_lines = c.self.inside.most_lines;
           most_answers = c.self.inside.most_answers;
         };

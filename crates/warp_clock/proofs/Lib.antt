@@ -1,0 +1,3 @@
+pub mod SpanLemmas
+pub mod TurnLemmas
+pub mod RoundLemmas

@@ -1,0 +1,11 @@
+pub mod Unbroken
+pub mod UnbrokenJointly
+pub mod Honest
+pub mod Singles
+pub mod Counted
+pub mod Bounds
+pub mod Closed
+pub mod Judged
+pub mod Flags
+pub mod FirstFree
+pub mod Steps

@@ -1,0 +1,4 @@
+pub mod Kept
+pub mod Stamps
+pub mod Keeping
+pub mod Judging

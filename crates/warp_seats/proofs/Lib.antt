@@ -1,0 +1,4 @@
+pub mod SeatLemmas
+pub mod ApartLemmas
+pub mod TextLemmas
+pub mod ReadLemmas
