@@ -10,6 +10,7 @@ from . import Carrier, Differ, spelled
 
 USAGE = """usage: python3 -m warpd carry [--until-equal] HOST:PORT HOST:PORT..
        python3 -m warpd feed --server HOST:PORT --stream URL [--state FILE] [--token-file FILE] [-- COMMAND..]
+       python3 -m warpd recast OLD NEW OLD.journal [-o NEW.journal] [--rename A=B].. [--force]
        python3 -m warpd compile FILE.lf [-o FILE.json]
        python3 -m warpd compile --back FILE.json [-o FILE.lf]
        python3 -m warpd compile --test FILE.lf [TESTS..]
@@ -62,12 +63,19 @@ def compile_command(words: Sequence[str]) -> int:
     return _with_packages("compile", words, {"lark": "python3-lark"})
 
 
+def recast_command(words: Sequence[str]) -> int:
+    """Brings a journal's records under a new program. Texts of programs want the compiler's package."""
+    return _with_packages("recast", words, {"lark": "python3-lark"})
+
+
 def _with_packages(word: str, words: Sequence[str], packages: dict[str, str]) -> int:
     """Does what wants more than the standard library. Where a package is one of the system's Python, and another one
     is the first on the path, that of the system does it."""
     try:
         if word == "feed":
             from .feed.command import main as done
+        elif word == "recast":
+            from .recast.command import main as done
         else:
             from .language.command import main as done
         return done(words)
@@ -85,7 +93,7 @@ def usage() -> int:
     return 2
 
 
-COMMANDS = {"carry": carry_command, "compile": compile_command, "feed": feed_command}
+COMMANDS = {"carry": carry_command, "compile": compile_command, "feed": feed_command, "recast": recast_command}
 
 
 def main(words: Sequence[str]) -> int:

@@ -30,6 +30,7 @@ from pathlib import Path
 from typing import Optional, Union
 
 from . import Event, Tag, Withdraw
+from .built import found
 from .language.parsing import Parser
 from .language.testing import orders, running, spelling
 from .language.testing.command import read_files
@@ -69,7 +70,7 @@ def program(path: Union[str, PathLike], warpd: Optional[str] = None) -> Program:
     its = read_files(Path(path))
     if its.subject is None or its.report.errors:
         raise ValueError(f"{path} has a fault:\n{its.report}")
-    return Program(its.subject, running.found(warpd))
+    return Program(its.subject, found(warpd))
 
 
 class Program:

@@ -7,10 +7,11 @@ import sys
 from collections.abc import Sequence
 from pathlib import Path
 
+from ...built import Fails, found
 from .judging import Judge, Options, Outcome
 from .plan import Test
 from .reading import Reading, read
-from .running import Fails, World, found
+from .running import World
 from .telling import failure, junit, line
 
 NOTES = """A test stands in the text, or in a file beside it:

@@ -9,12 +9,13 @@ from dataclasses import dataclass, field
 from typing import NamedTuple, Optional, Union
 
 from ... import Tag
+from ...built import Fails
 from ..tree import At
 from .drawing import Smaller, drawn
 from .orders import by_tag, shuffled
 from .plan import ASK, Arrival, Draw, Expected, Given, Puts, Step, Test
 from .reading import references
-from .running import Answers, Fails, Row, World
+from .running import Answers, Row, World
 from .spelling import block, expected, moment, puts
 
 # How many orders are tried: of a test, and of each of the runs of one that draws.
