@@ -2,6 +2,7 @@
 
 from __future__ import annotations
 
+from collections import Counter
 from collections.abc import Sequence
 from typing import NamedTuple, Optional
 
@@ -37,10 +38,10 @@ def matched(old: Sequence[Port], new: Sequence[Port], renamed: dict[int, int]) -
     goes before."""
     found = dict(renamed)
     for same in SAME:
-        for number, it in enumerate(old):
-            free = [at for at, other in enumerate(new) if same(it, other) and at not in found.values()]
-            if number not in found and len(free) == 1:
-                found[number] = free[0]
+        left, free = {*range(len(old))} - {*found}, {*range(len(new))} - {*found.values()}
+        pairs = [(number, at) for number in left for at in free if same(old[number], new[at])]
+        once = Counter(number for number, _ in pairs), Counter(at for _, at in pairs)
+        found.update((number, at) for number, at in pairs if once[0][number] == once[1][at] == 1)
     return found
 
 
@@ -75,7 +76,7 @@ class Mapping(NamedTuple):
             return line
         time, micro, number, value = rest
         if int(number) not in self.inputs:
-            raise Gone(f"of input {self.old.inputs[int(number)].told}, which NEW has not")
+            raise Gone(f"of input {self.old.inputs[int(number)].told}, for which NEW has none")
         return f"event {origin} {time} {micro} {self.inputs[int(number)]} {value}"
 
     def told(self) -> list[str]:

@@ -2,6 +2,7 @@
 
 from __future__ import annotations
 
+from collections import Counter
 from collections.abc import Callable, Iterable, Iterator, Mapping as Numbers, Sequence
 from itertools import groupby, islice, takewhile, zip_longest
 from typing import NamedTuple, Optional, Union
@@ -22,23 +23,24 @@ class InTheWay:
     """Records that are not taken, by reason: how many there are, and the first of them with the numbers of their lines."""
 
     def __init__(self) -> None:
-        self._counts: dict[str, int] = {}
-        self._first: dict[str, list[str]] = {}
+        self._counts: Counter[str] = Counter()
+        self._first: dict[str, list[tuple[int, str]]] = {}
 
     def add(self, why: str, number: int, line: str) -> None:
-        self._counts[why] = self._counts.get(why, 0) + 1
+        self._counts[why] += 1
         first = self._first.setdefault(why, [])
         if len(first) < SHOWN:
-            first.append(f"  line {number}: {line}")
+            first.append((number, line))
 
     def __bool__(self) -> bool:
         return bool(self._counts)
 
     def __str__(self) -> str:
         lines = []
-        for why, count in self._counts.items():
-            more = [f"  and {count - SHOWN} more"] * (count > SHOWN)
-            lines += [f"{count} record{'s' * (count != 1)} {why}", *self._first[why], *more]
+        for why, first in sorted(self._first.items(), key=lambda it: it[1]):
+            count = self._counts[why]
+            lines += [f"{count} record{'s' * (count != 1)} {why}", *(f"  line {number}: {line}" for number, line in first)]
+            lines += [f"  and {count - SHOWN} more"] * (count > SHOWN)
         return "\n".join(lines)
 
 
