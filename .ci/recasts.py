@@ -220,6 +220,9 @@ def recast_forms():
         assert old.read_bytes().count(b" 1700000000\n") == 0 and room.recast() == (0, DIFFER, [])
         room.holds("new.json", RECORDS)
         one = old.read_bytes()
+        old.write_bytes(summed(room.first("old.json"), RECORDS, every=1))
+        assert room.recast(f"{WORDS} --force") == (0, DIFFER, []) and old.read_bytes().count(b"= ") == 3
+        room.holds("new.json", RECORDS)
         for data in (one, two):
             for torn in (b"event 0 9", b"= 3 ab"):
                 old.write_bytes(data + torn)
