@@ -200,7 +200,7 @@ def recast_over():
         assert room.recast() == (4, [], is_there)
         for wrong in ("old.journal", "./old.journal"):
             status, printed, told = room.recast(f"old.json new.json old.journal -o {wrong} --force")
-            assert (status, printed) == (2, []) and told[-1].endswith(f"-o {wrong} would take the place of the old journal".replace("./", "")), told
+            assert (status, printed) == (2, []) and told[-1].endswith("-o old.journal would take the place of the old journal"), told
         room.file("link").symlink_to(new)
         room.file("away").symlink_to("nowhere")
         for name in ("link", "away"):

@@ -62,7 +62,7 @@ def main(words: Sequence[str]) -> int:
     except Ended as error:
         tell(f"warpd run ended: {error}")
     except OSError as error:
-        tell(f"{error.filename}: {error.strerror}")
+        tell(": ".join(str(it) for it in (error.filename, error.strerror) if it))
     except UnicodeDecodeError as error:
         tell(f"a file is no text in UTF-8: {error.reason}")
     except Fails as error:
