@@ -422,7 +422,4 @@ def _names(it: tree.Reactor) -> Iterator[str]:
     """The names that a reactor declares."""
     yield from (each.name.text for each in it.parameters)
     for each in [*it.members, *(part for mode in it.every(tree.Mode) for part in mode.members)]:
-        if isinstance(each, tree.Ports):
-            yield from (place.name.text for place in each.places)
-        elif isinstance(getattr(each, "name", None), tree.Name):
-            yield each.name.text
+        yield from tree.names_of(each)
