@@ -45,7 +45,7 @@ class Sources:
         # Of a reactor that is compiled: what it was with its modes.
         self.written: dict[int, tree.Reactor] = {}
         self.extended: set[str] = set()
-        # Where `history` leads to modes with timers.
+        # Where `history` leads to modes with timers or actions.
         self.resumed: list[At] = []
 
     def read(self, text: str) -> Optional[tree.File]:
