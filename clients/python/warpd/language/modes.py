@@ -238,6 +238,8 @@ class Modes(Parts):
 
     def _plain(self, it: tree.Reaction, mode: Optional[tree.Mode] = None) -> tree.Reaction:
         """A reaction with actions in the place of what belongs to modes."""
+        for place in (*it.on, *it.reads, *it.writes):
+            self._is_known(place, mode)
         lists = {}
         for part in ("on", "reads"):
             lists[part] = tuple(each for place in getattr(it, part) for each in self._named(place, mode))
@@ -246,6 +248,13 @@ class Modes(Parts):
         switch = [self._place(self.switch)] * bool(ways)
         body = it.body and self._body(it.body, ways, mode)
         return dataclasses.replace(it, **lists, writes=(*writes, *actions, *switch), body=body)
+
+    def _is_known(self, place: tree.Place, mode: Optional[tree.Mode]) -> None:
+        """Tells a timer or an action of another mode than the reaction's."""
+        home = self.home.get(place.name.text)
+        if place.is_plain and home is not None and home is not mode:
+            text = f"`{place}` is of the mode `{home.name.text}`: only its reactions name it"
+            self.report.error(place.at, text, "what stands outside of modes is known in all of them")
 
     def _named(self, place: tree.Place, mode: Optional[tree.Mode]) -> list[tree.Place]:
         if mode is None or not place.is_plain:
