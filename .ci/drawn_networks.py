@@ -2,8 +2,8 @@
 
 The simulator goes over the instances as they stand in each other: what is put on a port goes along connections to the
 ports behind it, at the same tag or after a delay, and each reaction runs behind those whose ports it reads and those
-before it in its reactor. A mode that is left loses what it had begun; where `history` leads back to it, its timers go on with
-the time that was left. Nothing is executed behind microstep 0 of the
+before it in its reactor. A mode that is left loses what it had begun; where `history` leads back to it, its timers and what waits
+on its actions go on with the time that was left. Nothing is executed behind microstep 0 of the
 stop, or behind the tag after a `request_stop`."""
 
 import heapq
@@ -99,18 +99,18 @@ def modal(dice, name, longest=3):
     for number in range(dice.randint(2, 3)):
         is_plain = dice.random() < 0.2
         timers = {f"t{number}": (dice.choice([0, 0, 1, 2]), dice.randint(0, longest))} if not is_plain else {}
-        actions = {f"c{number}": dice.choice([0, 1, 2, 3])} if not is_plain and dice.random() < 0.5 else {}
+        actions = {f"c{number}": dice.choice([0, 1, 2, 3])} if not is_plain and dice.random() < 0.6 else {}
         kind.modes.append(Mode(timers, actions, dice.choice([None, 5])))
     for number, mode in enumerate(kind.modes):
-        for _ in range(dice.randint(1, 2)):
-            triggers = [Place(None, "a"), *mode.timers, *mode.timers, *mode.actions, "reset", "startup", "shutdown"]
+        for _ in range(dice.randint(1, 3 if mode.actions else 2)):
+            triggers = [Place(None, "a"), *mode.timers, *mode.timers, *mode.actions, *mode.actions, "reset", "startup", "shutdown"]
             on = list(dict.fromkeys(dice.sample(triggers, dice.randint(1, 3))))
-            actions = [it for it in mode.actions if dice.random() < 0.6]
+            actions = [it for it in mode.actions if dice.random() < 0.8]
             it = Reaction(on, [], [Place(None, "y")], actions, [dice.randint(1, 9) for _ in range(4)], mode=number)
             it.echoes = dice.random() < 0.2
             target = dice.randrange(len(kind.modes))
-            is_history = not kind.modes[target].actions and dice.random() < 0.7
-            it.leads = ("history" if is_history else "reset", target) if dice.random() < 0.7 else None
+            word = "history" if dice.random() < 0.6 else "reset"
+            it.leads = (word, target) if dice.random() < 0.7 else None
             kind.reactions.append(it)
     return kind
 
@@ -270,8 +270,9 @@ def channels(kind, place):
 class Node:
     def __init__(self, kind, path=()):
         self.kind, self.path, self.n = kind, path, 1
-        # How long the timers of modes that were left would still have taken; None of those that would not come again.
-        self.rest = {}
+        # How long the timers of modes that were left would still have taken; None of those that would not come again. And what waited on
+        # their actions, each value with how long it would have taken.
+        self.rest, self.waiting = {}, {}
         self.mode, self.next, self.counts = 0, None, [mode.start for mode in kind.modes]
         # The tag at which its mode began anew, and that at which each was entered first.
         self.begun, self.first = None, {0: (0, 0)}
@@ -411,6 +412,8 @@ class Simulator:
         begun = [(tag, target) for tag, target in self.entries if target[0] == id(node) and target[1] in (*left.timers, *left.actions)]
         for name in left.timers:
             node.rest[name] = min((tag[0] - before[0] for tag, target in begun if target[1] == name), default=None)
+        for name in left.actions:
+            node.waiting[name] = [(tag[0] - before[0], self.entries[tag, target]) for tag, target in begun if target[1] == name]
         for tag, target in begun:
             del self.entries[tag, target]
         node.mode, entered = number, self.landing(0)
@@ -423,6 +426,9 @@ class Simulator:
             rest = offset if word == "reset" else node.rest.get(name, offset)
             if rest is not None:
                 self.begin(node, name, rest, period)
+        for name in mode.actions if word == "history" else ():
+            for rest, value in node.waiting.get(name, ()):
+                self.enter((entered[0] + rest, 0) if rest else entered, (id(node), name, None), value)
         self.tag = before
 
     def seen(self, node, name, mode=None):

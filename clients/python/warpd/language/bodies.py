@@ -260,7 +260,7 @@ class BodyCheck:
             if it.indices or it.owner_indices:
                 self.scope.no_array(it, it.at)
             else:
-                self.report.error(it.at, *(text.format(owner) for text in refused.NO_INSTANCE))
+                self.report.error(it.at, *refused.no_instance(owner))
             return Kind.TYPE, INT
         if not it.owner:
             return kind, self.scope.element(self.type_of(owner), it, it.indices, self)

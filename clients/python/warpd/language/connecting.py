@@ -181,10 +181,6 @@ class Connecting:
         return place.owner.text in self.node.widths or place.name.text in part.widths
 
 
-def _told(point: Point) -> str:
-    return str(point)
-
-
 def uses(node: Node, net: Net, report: Report) -> None:
     """Takes in what the reactions of a node name of the reactors that it contains."""
     for name, point in node.heard.items():

@@ -51,16 +51,27 @@ def _state(words: Sequence[Word], number: int, start: int) -> Told:
     word, before = words[number], words[max(number - 1, 0)]
     if words[start].kind == "STATE":
         if "[" in (word.text, before.text):
-            return (word if word.text == "[" else before), refused.SIDES
-        if "(" in (before.text, word.text):
-            bracket, last = (before, word) if before.text == "(" else (word, _behind(words, number))
-            is_array = _text(words, words.index(bracket) - 1) == "]"
-            return bracket, ("a start stands behind `=`", f"write `= {{{last}, ..}}`" if is_array else f"write `= {last}`")
+            bracket = number if word.text == "[" else number - 1
+            is_start = _text(words, bracket - 1) in ("=", ",", "[")
+            first = _behind(words, bracket)
+            return words[bracket], (refused.BRACES, f"write `{{{first}, ..}}`") if is_start else refused.SIDES
+        bracket = _start_bracket(words, number)
+        if bracket is not None:
+            is_array = _text(words, bracket - 1) == "]"
+            first = words[bracket + 2] if words[bracket + 1].text == "{" else words[bracket + 1]
+            return words[bracket], ("a start stands behind `=`", f"write `= {{{first}, ..}}`" if is_array else f"write `= {first}`")
     if words[start].kind in ("STATE", "INPUT", "OUTPUT") and [it.kind for it in words[start + 1:start + 3]] == ["NAME", "NAME"]:
         name, type = words[start + 1:start + 3]
         if name.line == type.line:
             return type, ("a type stands behind a colon", f"write `{words[start]} {name}: {type}`")
     return None
+
+
+def _start_bracket(words: Sequence[Word], number: int) -> Optional[int]:
+    """Where the bracket stands that other languages have before a start or a default: `int(3)`, `int{3}`."""
+    if words[number].text == "{" and _text(words, number - 2) == ":" or (_text(words, number - 1), words[number].text) == ("]", "{"):
+        return number
+    return next((place for place in (number - 1, number) if _text(words, place) == "("), None)
 
 
 def _first_word(words: Sequence[Word], number: int, start: int) -> Told:
@@ -109,6 +120,12 @@ def _other_kinds(words: Sequence[Word], number: int, start: int) -> Told:
         return word, ("a reaction has no name", "write `reaction(..)`")
     if word.text == "continue" and _behind(words, number).text == "(":
         return word, ("there is no `continue` of a mode", f"write `history({_text(words, number + 2)})`")
+    if before.text in refused.LATE and (word.text == "(" or word.kind == "BODY"):
+        return before, (f"there is no `{before}`: no event is refused as late", "what comes late is executed at its tag, and what is behind that again")
+    if before.text == "at" and _text(words, number - 2) == ")":
+        return before, ("warpd has no federates", "leave `at` out: each replica runs the whole program")
+    if word.kind == "CONST" and _behind(words, number).kind == "METHOD":
+        return word, ("a method has no `const`", "leave it out")
     if before.text == "serializer":
         return before, ("warpd has no serializers", "leave it out")
     if words[start].kind == "LOGICAL" and word.kind == "STRING":
@@ -123,11 +140,13 @@ def _given(words: Sequence[Word], number: int, start: int) -> Told:
     word, before = words[number], words[max(number - 1, 0)]
     if word.text == ":" and before.kind == "NAME" and any(it.kind == "NEW" for it in words[start:number]):
         return word, ("a value of a parameter stands behind `=`", f"write `{before} = {_behind(words, number)}`")
-    if word.text == "(" and before.kind == "NAME" and _text(words, number - 2) == ":":
-        return word, ("a default stands behind `=`", f"write `= {_behind(words, number)}`")
+    if word.text in ("(", "{") and (_text(words, number - 2) == ":" or before.text == "]"):
+        of = f"{{{_behind(words, number)}, ..}}" if before.text == "]" else f"{_behind(words, number)}"
+        return word, ("a default stands behind `=`", f"write `= {of}`")
     is_behind = (before.text, word.text) == (")", "[") and any(it.kind == "NEW" for it in words[start:number])
     is_before = (before.text, word.text) == ("]", "=") and _behind(words, number).kind == "NEW"
-    if is_behind or is_before:
+    is_inside = word.text == "[" and _text(words, number - 2) == "new"
+    if is_behind or is_before or is_inside:
         return word, ("the width of a bank stands behind `new`", "write `p = new[3] Player();`")
     return None
 
@@ -180,6 +199,25 @@ def _of_tag(words: Sequence[Word], number: int, start: int) -> Told:
     return None
 
 
+def _method_call(words: Sequence[Word], number: int, start: int) -> Told:
+    """`x.get()`, `y.set(3)`, `ctx.set(y, 3)`: it stops at the bracket."""
+    if words[number].text != "(" or _text(words, number - 2) != "." or words[number - 1].text not in refused.METHODS:
+        return None
+    owner = words[number - 3]
+    return owner, (refused.NO_CODE, refused.METHODS[words[number - 1].text].format(owner))
+
+
+def _second_dot(words: Sequence[Word], number: int, start: int) -> Told:
+    """`p.y.x`: a field of a port of an instance."""
+    if words[number].text != "." or words[max(number - 1, 0)].kind not in ("NAME", "RSQB"):
+        return None
+    word = _behind(words, number)
+    if word.text in refused.PARTS:
+        text = "a port stands by its name alone" if word.text == "value" else "whether a port is there is asked by `present`"
+        return word, (text, "write `p.y`, and `present(p.y)`")
+    return words[number], ("a place has one `.`", "give what stands before it a name: `let v = p.y;`, then `v.x`")
+
+
 def _time(words: Sequence[Word], number: int, start: int) -> Told:
     word, before = words[number], words[max(number - 1, 0)]
     if before.kind != "NUMBER" or word.kind != "NAME" or word.line != before.line:
@@ -230,13 +268,14 @@ def mended(words: Sequence[Word], number: int, start: int) -> list[Word]:
         return Word(kind, text, words[number].line, words[number].column)
 
     first, name, type = (words[min(start + it, len(words) - 1)] for it in range(3))
-    bracket = number if words[number].text == "(" else number - 1
-    if _text(words, bracket) == "(" and (first.kind == "STATE" or _text(words, bracket - 2) == ":"):
-        end = next((place for place in range(bracket, len(words)) if words[place].kind == "RPAR"), 0)
-        given = [sign("EQUALS", "="), *words[bracket + 1:end]]
-        if _text(words, bracket - 1) == "]":
-            given = [given[0], sign("LBRACE", "{"), *given[1:], sign("RBRACE", "}")]
-        return [*words[:bracket], *given, *words[end + 1:]] if end else []
+    bracket = _start_bracket(words, number)
+    if bracket is not None and (first.kind == "STATE" or _text(words, bracket - 2) == ":" or _text(words, bracket - 1) == "]"):
+        closing = "RPAR" if words[bracket].text == "(" else "RBRACE"
+        end = next((place for place in range(bracket, len(words)) if words[place].kind == closing), 0)
+        given = words[bracket + 1:end]
+        if _text(words, bracket - 1) == "]" and given and given[0].text != "{":
+            given = [sign("LBRACE", "{"), *given, sign("RBRACE", "}")]
+        return [*words[:bracket], sign("EQUALS", "="), *given, *words[end + 1:]] if end else []
     if first.kind in ("STATE", "INPUT", "OUTPUT") and name.kind == type.kind == "NAME":
         return [*words[:start + 2], sign("COLON", ":"), *words[start + 2:]]
     if first.kind == name.kind == "NAME" and first.text in refused.C_TYPES:
@@ -247,15 +286,4 @@ def mended(words: Sequence[Word], number: int, start: int) -> list[Word]:
 
 Look = Callable[[Sequence[Word], int, int], Told]
 IN_FILES: tuple[Look, ...] = (_other_kinds, _state, _first_word, _given, _arrow, _time)
-def _second_dot(words: Sequence[Word], number: int, start: int) -> Told:
-    """`p.y.x`: a field of a port of an instance."""
-    if words[number].text != "." or words[max(number - 1, 0)].kind not in ("NAME", "RSQB"):
-        return None
-    word = _behind(words, number)
-    if word.text in refused.PARTS:
-        text = "a port stands by its name alone" if word.text == "value" else "whether a port is there is asked by `present`"
-        return word, (text, "write `p.y`, and `present(p.y)`")
-    return words[number], ("a place has one `.`", "give what stands before it a name: `let v = p.y;`, then `v.x`")
-
-
-IN_BODIES: tuple[Look, ...] = (_signs, _cast, _of_tag, _second_dot, _time, _statements, _declares)
+IN_BODIES: tuple[Look, ...] = (_signs, _cast, _of_tag, _method_call, _second_dot, _time, _statements, _declares)

@@ -132,6 +132,9 @@ class Hierarchy:
 
     def _width(self, node: Node, it: tree.Expression, scope: Scope) -> int:
         value = self.program.constant(scope, it, node.constants)
+        if not node.raw.is_good and not value:
+            # Of a parameter with a fault.
+            return 1
         return ranged(self.report, value, 1, MOST_WIDTH, it.at, "the width")
 
     def _instance(self, node: Node, it: tree.Instance, around: tuple[Class, ...]) -> None:

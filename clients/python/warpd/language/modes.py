@@ -5,25 +5,24 @@ timer of a mode is an action whose value is the number of the entry at which it 
 what was begun before says nothing any more. An action of a mode has a second one beside it, with that number.
 
 A timer that goes on where `history` leads to its mode has a variable too: when it comes next, or outside of its mode how
-long that still takes. Its action goes there in steps, since a delay is constant."""
+long that still takes. Its action goes there in steps, since a delay is constant. What waits on an action that goes on stands in
+arrays (`waiting`)."""
 
 from __future__ import annotations
 
 import dataclasses
-from collections.abc import Iterable, Iterator
+from collections.abc import Iterator
 from typing import Optional
 
 from . import tree
 from .faults import Report, nearest
 from .tree import At
-
-Expressions = Iterable[tree.Expression]
-# The steps in which a timer goes the rest of its way: all that a delay may be, in three of each at most.
-STEPS = tuple(4 ** power for power in range(11, -1, -1))
+from .tree_parts import Parts
+from .waiting import Waiting
 
 
 def without_modes(it: tree.Reactor, resumed: list[At], report: Report) -> tree.Reactor:
-    """A reactor that does the same without modes. `resumed` takes where `history` leads to timers: they ask for the tag."""
+    """A reactor that does the same without modes. `resumed` takes where `history` leads to timers and actions: they ask for the tag."""
     if not it.every(tree.Mode):
         return it
     modes = Modes(it, report)
@@ -31,7 +30,7 @@ def without_modes(it: tree.Reactor, resumed: list[At], report: Report) -> tree.R
     return modes.written()
 
 
-class Modes:
+class Modes(Parts):
     """Writes one reactor."""
 
     def __init__(self, it: tree.Reactor, report: Report):
@@ -48,11 +47,13 @@ class Modes:
         self.home: dict[str, tree.Mode] = {}
         # Whether some reaction leads to a mode.
         self.leads = False
-        # The modes with timers to which `history` leads, each with where it does; and when their timers come next.
+        # The modes with timers or actions to which `history` leads, each with where it does; when their timers come next, and what
+        # waits on their actions.
         self.resumed: dict[str, At] = {}
         self.due: dict[str, str] = {}
-        for place in [place for reaction in _reactions(it) for place in reaction.writes]:
-            if place.transition == "history" and any(isinstance(each, tree.Timer) for each in self._members(place.name.text)):
+        self.waits: dict[str, Waiting] = {}
+        for place in [place for reaction in _reactions(it) for place in reaction.writes if place.transition == "history"]:
+            if any(isinstance(each, (tree.Timer, tree.Action)) for each in self._members(place.name.text)):
                 self.resumed.setdefault(place.name.text, place.at)
 
     def _free(self, name: str) -> str:
@@ -78,7 +79,8 @@ class Modes:
         for mode in self.modes:
             begun = [it for it in mode.members if isinstance(it, (tree.Timer, tree.Action))]
             members += [each for it in begun for each in self._beside(it)]
-        reactions = [*(self._ticking(name) for name in self.timers if name not in self.due), *self._in_order(own)]
+        reactions = [*(self._ticking(name) for name in self.timers if name not in self.due), *(it.taking() for it in self.waits.values())]
+        reactions += self._in_order(own)
         if self.leads:
             reactions = [self._switching(), *reactions, *map(self._going, self.due)]
         if self.leads and any(map(self._asks_first, self.modes)):
@@ -121,7 +123,10 @@ class Modes:
                     self.first[it.name.text] = self._free(f"{it.name.text}_first")
             elif isinstance(it, tree.Action):
                 self.home[it.name.text] = mode
-                self.beside[it.name.text] = self._free(f"{it.name.text}_entry")
+                if mode.name.text in self.resumed:
+                    self.waits[it.name.text] = Waiting(it, self._in(mode), self.switch, self._free)
+                else:
+                    self.beside[it.name.text] = self._free(f"{it.name.text}_entry")
 
     def _variables(self) -> list[tree.State]:
         number = next((place for place, mode in enumerate(self.modes) if mode.is_initial), 0)
@@ -145,46 +150,18 @@ class Modes:
             yield tree.Timer(self._name(self.first[name]), (*it.arguments[:1], *[self._number(0)] * (not it.arguments)))
         if name in self.beside:
             yield tree.Action(self._name(self.beside[name]), it.arguments, None)
+        if name in self.waits:
+            yield from self.waits[name].members()
 
     # Parts of the tree.
 
-    def _name(self, text: str) -> tree.Name:
-        return tree.Name(text, self.at)
-
-    def _place(self, text: str) -> tree.Place:
-        return tree.Place(None, self._name(text))
-
-    def _number(self, number: int) -> tree.Number:
-        return tree.Number(str(number), self.at)
-
-    def _of(self, name: str) -> tree.Reference:
-        return tree.Reference(name, self.at)
-
-    def _is(self, left: tree.Expression, right: tree.Expression, operator: str = "==") -> tree.Binary:
-        return tree.Binary(operator, left, right, self.at)
-
-    def _present(self, name: str) -> tree.Call:
-        return tree.Call(self._name("present"), (self._of(name),), self.at)
-
-    def _both(self, parts: Expressions, operator: str = "&&") -> tree.Expression:
-        first, *rest = parts
-        for it in rest:
-            first = self._is(first, it, operator)
-        return first
-
     def _in(self, mode: tree.Mode) -> tree.Expression:
         return self._is(self._of(self.mode), self._number(self.numbers[mode.name.text]))
-
-    def _schedule(self, action: str, delay: tree.Expression, value: tree.Expression) -> tree.Invoke:
-        return tree.Invoke(tree.Call(self._name("schedule"), (self._of(action), delay, value), self.at))
 
     def _entered(self, mode: tree.Mode) -> tree.Expression:
         """Whether a mode is entered by a reset at this tag."""
         code = self._number(2 * self.numbers[mode.name.text])
         return self._both((self._present(self.switch), self._is(self._of(self.switch), code)))
-
-    def _now(self) -> tree.Member:
-        return tree.Member(tree.Place(self._name("lf"), self._name("time")), self.at)
 
     def _times(self, name: str) -> tuple[tree.Expression, tree.Expression]:
         given = self.timers[name].arguments
@@ -205,6 +182,8 @@ class Modes:
             return self._both((*ways, self._both((at_once, self._entered(self.home[name])))), "||")
         if name in self.beside:
             return self._both((self._present(name), self._is(self._of(self.beside[name]), self._of(self.entries))))
+        if name in self.waits:
+            return self.waits[name].is_there()
         if name == "reset":
             return self._entered(mode)
         if name == "startup" and not mode.is_initial:
@@ -220,6 +199,8 @@ class Modes:
             return [name, *self._first(name), self.switch]
         if name in self.beside:
             return [name, self.beside[name]]
+        if name in self.waits:
+            return self.waits[name].triggers
         if name == "reset" or name == "startup" and not mode.is_initial:
             return [self.switch]
         return [name]
@@ -257,6 +238,8 @@ class Modes:
 
     def _plain(self, it: tree.Reaction, mode: Optional[tree.Mode] = None) -> tree.Reaction:
         """A reaction with actions in the place of what belongs to modes."""
+        for place in (*it.on, *it.reads, *it.writes):
+            self._is_known(place, mode)
         lists = {}
         for part in ("on", "reads"):
             lists[part] = tuple(each for place in getattr(it, part) for each in self._named(place, mode))
@@ -265,6 +248,13 @@ class Modes:
         switch = [self._place(self.switch)] * bool(ways)
         body = it.body and self._body(it.body, ways, mode)
         return dataclasses.replace(it, **lists, writes=(*writes, *actions, *switch), body=body)
+
+    def _is_known(self, place: tree.Place, mode: Optional[tree.Mode]) -> None:
+        """Tells a timer or an action of another mode than the reaction's."""
+        home = self.home.get(place.name.text)
+        if place.is_plain and home is not None and home is not mode:
+            text = f"`{place}` is of the mode `{home.name.text}`: only its reactions name it"
+            self.report.error(place.at, text, "what stands outside of modes is known in all of them")
 
     def _named(self, place: tree.Place, mode: Optional[tree.Mode]) -> list[tree.Place]:
         if mode is None or not place.is_plain:
@@ -280,13 +270,8 @@ class Modes:
             if place.transition and name not in self.numbers:
                 self.report.error(place.at, f"there is no mode `{name}`", nearest(name, self.numbers))
             elif place.is_plain and name in self.numbers:
-                is_history = place.transition == "history"
-                if is_history and any(isinstance(each, tree.Action) for each in self._members(name)):
-                    hint = f"write `reset({name})`, or let an action outside of modes stand for it"
-                    text = f"`{name}` has actions: by `history` they would go on with the time that was left"
-                    self.report.error(place.at, text, hint)
                 self.leads = True
-                ways[name] = 2 * self.numbers[name] + is_history
+                ways[name] = 2 * self.numbers[name] + (place.transition == "history")
             else:
                 writes.append(place)
         return ways, writes
@@ -302,8 +287,10 @@ class Modes:
                 case tree.Invoke(tree.Call(tree.Name("set_mode"), (tree.Reference(name, at),))):
                     return self._to(name, at, ways)
                 case tree.Invoke(tree.Call(tree.Name("schedule"), (tree.Reference(name), delay, *value)) as call):
-                    parts = (call.parts[0], delay, *map(made, value))
-                    scheduled = tree.Invoke(dataclasses.replace(call, parts=parts))
+                    delay, value = made(delay), made(tuple(value))
+                    if name in self.waits:
+                        return self.waits[name].scheduled(call, delay, value[0] if value else self._number(0))
+                    scheduled = tree.Invoke(dataclasses.replace(call, parts=(call.parts[0], delay, *value)))
                     if name not in self.beside:
                         return scheduled
                     entry = self._schedule(self.beside[name], delay, self._of(self.entries))
@@ -312,6 +299,8 @@ class Modes:
                     return self._is_there(name, mode)
                 case tree.Reference(name, at) if name in self.beside and mode:
                     return tree.Choice(self._is_there(name, mode), part, self._number(0), at)
+                case tree.Reference(name, at) if name in self.waits and mode:
+                    return tree.Choice(self._is_there(name, mode), self._of(self.waits[name].value), self._number(0), at)
             if not dataclasses.is_dataclass(part):
                 return part
             return dataclasses.replace(part, **{key: made(value) for key, value in vars(part).items()})
@@ -330,12 +319,6 @@ class Modes:
 
     # Reactions of the compiler's own.
 
-    def _react(self, on: Iterable[str], writes: Iterable[str], body: Iterable[tree.Statement]) -> tree.Reaction:
-        return tree.Reaction(tuple(map(self._place, on)), (), tuple(map(self._place, writes)), tuple(body), self.at)
-
-    def _set(self, name: str, value: tree.Expression) -> tree.Assign:
-        return tree.Assign(self._name(name), None, value)
-
     def _switching(self) -> tree.Reaction:
         """Enters a mode: a reset begins its timers, and gives its variables their starts."""
         code, two = self._of(self.switch), self._number(2)
@@ -353,15 +336,20 @@ class Modes:
         return self._react([self.switch], [name for name in self.timers if name not in self.due], body)
 
     def _moved(self, mode: tree.Mode, sign: str) -> Iterator[tree.Statement]:
-        """What is left of the times of a mode's timers, or when that is over."""
+        """What is left of the times of a mode's timers and actions, or when that is over."""
         for name in self.due if mode.name.text in self.resumed else ():
             if self.home[name] is mode:
                 due = self._of(self.due[name])
                 yield tree.If(self._is(due, self._number(0), ">="), (self._set(self.due[name], self._is(due, self._now(), sign)),), ())
+        for name, it in self.waits.items():
+            if self.home[name] is mode:
+                yield from it.moved_by(sign)
 
     def _begins(self, it: tree.Part) -> Iterator[tree.Statement]:
         if isinstance(it, tree.State) and it.is_reset:
             yield tree.Assign(it.name, None, it.start or self._number(0))
+        if isinstance(it, tree.Action) and it.name.text in self.waits:
+            yield self.waits[it.name.text].emptied()
         if isinstance(it, tree.Timer) and it.name.text in self.due:
             yield self._set(self.due[it.name.text], self._times(it.name.text)[0])
         elif isinstance(it, tree.Timer):
@@ -383,16 +371,12 @@ class Modes:
     def _going(self, name: str) -> tree.Reaction:
         """Sets when a timer comes next where it has come, and lets its action go on to there."""
         period, due, entry = self._times(name)[1], self._of(self.due[name]), self._of(self.entries)
-        never, later = tree.Unary("-", self._number(1), self.at), self._is(self._now(), period, "+")
-        again = tree.Choice(self._is(period, self._number(0), ">"), later, never, self.at)
+        later = self._is(self._now(), period, "+")
+        again = tree.Choice(self._is(period, self._number(0), ">"), later, self._minus_one(), self.at)
         begins = [self._both((self._present(name), self._is(self._of(name), entry))), self._present(self.switch)]
         begins += [self._present("startup")] * self.home[name].is_initial
         left = tree.Let(self._name(self._free("left")), None, self._is(due, self._now(), "-"))
-        steps = [*((each, "==") for each in self._times(name)), *((self._number(each), ">=") for each in STEPS)]
-        step: tuple[tree.Statement, ...] = ()
-        for each, sign in reversed(steps):
-            delay = tree.Call(self._name("max"), (each, self._number(1)), self.at)
-            step = (tree.If(self._is(self._of(left.name.text), each, sign), (self._schedule(name, delay, entry),), step),)
+        step = self._step(name, self._of(left.name.text), entry, self._times(name))
         goes = self._both((self._is(due, self._now(), ">"), self._both(begins, "||")))
         body = [
             tree.If(self._is(due, self._now()), (self._set(self.due[name], again),), ()),
@@ -422,7 +406,4 @@ def _names(it: tree.Reactor) -> Iterator[str]:
     """The names that a reactor declares."""
     yield from (each.name.text for each in it.parameters)
     for each in [*it.members, *(part for mode in it.every(tree.Mode) for part in mode.members)]:
-        if isinstance(each, tree.Ports):
-            yield from (place.name.text for place in each.places)
-        elif isinstance(getattr(each, "name", None), tree.Name):
-            yield each.name.text
+        yield from tree.names_of(each)

@@ -28,7 +28,7 @@ def tell_needs(file: tree.File, sources: Sources, program: Program, report: Repo
     """Tells what a text has that the version which it says has not."""
     if program.is_later or not program.is_stated or not may_need_later(sources):
         return
-    resumed = ((at, "`history` to a mode with timers") for at in sources.resumed)
+    resumed = ((at, "`history` to a mode with timers or actions") for at in sources.resumed)
     for at, what in (*resumed, *_needs_of(file, sources)):
         tell_need(at, what, program, report)
 

@@ -24,7 +24,7 @@ STRUCTURE = {
     ),
 }
 
-_NO_CODE = "a body is no target code"
+NO_CODE = "a body is no target code"
 _DECLARES = (
     "a body declares no variables by their types",
     "write `let NAME = ..;`, `var NAME = ..;` where it is assigned again, or `state NAME: int = 0;` before the reactions",
@@ -41,7 +41,17 @@ C_TYPES = (
 )
 _LOOPS = ("a body has no such loop", "write `while (..; most 100)`: what goes on for ever is an action that schedules itself")
 
-NO_INSTANCE = ("there is no instance `{}` in this reactor", "an instance stands in its reactor: `p = new Player();`")
+# How a reactor names itself.
+ITSELF = ("self", "this")
+OF_ITSELF = (NO_CODE, "a state variable stands by its name alone")
+
+
+def no_instance(name: str) -> tuple[str, str]:
+    """What is said of a name before a dot that is no instance."""
+    if name in ITSELF:
+        return OF_ITSELF
+    return f"there is no instance `{name}` in this reactor", "an instance stands in its reactor: `p = new Player();`"
+
 
 BODY = {
     **dict.fromkeys(("do", "goto"), _LOOPS),
@@ -49,21 +59,21 @@ BODY = {
     **{word: (f"`{word}` is not there", "write `else if`") for word in ("elseif", "elif", "elsif")},
     **dict.fromkeys(_PRINTED, _PRINTS),
     **dict.fromkeys(("assert", "lf_assert"), ("a body asserts nothing", "put it on an output, or write a `test` outside of reactors")),
-    "exit": (_NO_CODE, "write `request_stop();`"),
+    "exit": (NO_CODE, "write `request_stop();`"),
     "#": ("a comment begins with `//`", ""),
     "'": ("warpd has no letters: each value is an integer of 64 bits", "write the letter's number, by a `const`"),
-    "lf_set": (_NO_CODE, "write `y = e;` or `put(y, e);`"),
-    **dict.fromkeys(("lf_schedule", "lf_schedule_int"), (_NO_CODE, "write `schedule(c, delay, value);`")),
-    "lf_set_mode": (_NO_CODE, "write `set_mode(M);`"),
-    "lf_request_stop": (_NO_CODE, "write `request_stop();`"),
-    "self": (_NO_CODE, "a state variable stands by its name alone"),
+    "lf_set": (NO_CODE, "write `y = e;` or `put(y, e);`"),
+    **dict.fromkeys(("lf_schedule", "lf_schedule_int"), (NO_CODE, "write `schedule(c, delay, value);`")),
+    "lf_set_mode": (NO_CODE, "write `set_mode(M);`"),
+    "lf_request_stop": (NO_CODE, "write `request_stop();`"),
+    "self": OF_ITSELF,
     **dict.fromkeys((*C_TYPES, "const"), _DECLARES),
     **dict.fromkeys(("++", "--"), ("this has no value, and stands by itself", "write `n++;` before the statement or behind it")),
     "then": ("`then` is not there", "write `if (..) S else S`"),
     "and": ("`and` is not there", "write `&&`"),
     "or": ("`or` is not there", "write `||`"),
     "not": ("`not` is not there", "write `!`"),
-    "->": (_NO_CODE, "`a->value` is `a`, and `a->is_present` is `present(a)`"),
+    "->": (NO_CODE, "`a->value` is `a`, and `a->is_present` is `present(a)`"),
     '"': ("warpd has no texts: each value is an integer of 64 bits", ""),
 }
 
@@ -81,6 +91,16 @@ TEST = {
 TEST_INSIDE = ("a test stands outside of reactors", "put it behind the `}` of this one")
 
 SIDES = ("the sides of an array stand behind its type", "write `state a: int[8]`")
+BRACES = "the values of an array stand between braces"
+
+# What stands behind a reaction, for events that come late.
+LATE = ("STP", "STAA", "tardy", "maxwait")
+
+# What other targets call of a port, an action or what a reaction is given.
+METHODS = {
+    "get": "`{0}.get()` is `{0}`", "set": "write `y = e;` or `put(y, e);`", "is_present": "`{0}.is_present()` is `present({0})`",
+    "schedule": "write `schedule(c, delay, value);`", "size": "the width of `{0}` is `{0}_width`",
+}
 
 # What C writes behind the name of an input or an action.
 PARTS = {
@@ -124,7 +144,7 @@ VALUES = {
     **{word: (f"there is no `{word}`", f"write `lf.{word}`, which is of the tag") for word in ("time", "microstep")},
     "never": ("there is no `never`", "a timer with an offset past the stop never comes"),
     "NULL": ("there is no `NULL`", "`present(a)` asks whether something is there"),
-    "self": (_NO_CODE, "a state variable stands by its name alone"),
+    "self": OF_ITSELF,
     **{word: (f"there is no `{word}`", f"write `{word.lower()}`") for word in ("TRUE", "FALSE", "True", "False")},
     "bank_index": ("`bank_index` is not declared here", "it is a parameter: `reactor NAME(bank_index: int = 0)`"),
 }

@@ -156,7 +156,9 @@ class Scope:
         wide = {it.split("[")[0] for it in self.kinds if "[" in it}
         wide |= {it for it, type in self.types.items() if isinstance(type, Array)}
         kind = self.kinds.get(name.text)
-        if kind is None:
+        if kind is None and name.text in refused.ITSELF:
+            self.report.error(name.at, *refused.OF_ITSELF)
+        elif kind is None:
             self.report.error(name.at, f"`{name.text}` is not declared here", nearest(name.text, wide))
         else:
             hint = f"`state {name.text}: int[8]` is one" if kind is Kind.VARIABLE else ""
@@ -413,7 +415,7 @@ class Scope:
             if name in refused.WIDTHS and f"{owner.text}_width" in self.kinds:
                 self.report.error(it.at, *(text.format(owner.text, name) for text in refused.OF_WIDTH))
             elif kind is None and not place.indices and not place.owner_indices:
-                self.report.error(it.at, *(text.format(owner.text) for text in refused.NO_INSTANCE))
+                self.report.error(it.at, *refused.no_instance(owner.text))
             elif kind is None:
                 self.no_array(place, it.at)
             else:

@@ -3,7 +3,7 @@
 from __future__ import annotations
 
 import os
-from collections.abc import Callable
+from collections.abc import Callable, Iterable
 from dataclasses import replace
 from pathlib import Path
 from typing import Optional
@@ -45,7 +45,7 @@ class Sources:
         # Of a reactor that is compiled: what it was with its modes.
         self.written: dict[int, tree.Reactor] = {}
         self.extended: set[str] = set()
-        # Where `history` leads to modes with timers.
+        # Where `history` leads to modes with timers or actions.
         self.resumed: list[At] = []
 
     def read(self, text: str) -> Optional[tree.File]:
@@ -154,15 +154,25 @@ class Sources:
         if not it.extends and not it.every(tree.Mode):
             return it
         if id(it) not in self.whole:
-            bases = [each for name in it.extends for each in self._base(name, it, around)]
-            lists = {}
-            for part in ("parameters", "members"):
-                found = {id(each): each for base in bases for each in getattr(base, part)}
-                lists[part] = (*found.values(), *getattr(it, part))
+            bases = [(name, each) for name in it.extends for each in self._base(name, it, around)]
+            lists = {part: (*self._inherited(bases, part), *getattr(it, part)) for part in ("parameters", "members")}
             written = replace(it, extends=(), **lists)
             self.whole[id(it)] = without_modes(written, self.resumed, self.report)
             self.written[id(self.whole[id(it)])] = written
         return self.whole[id(it)]
+
+    def _inherited(self, bases: list[tuple[tree.Name, tree.Reactor]], part: str) -> Iterable[tree.Parameter | tree.Part]:
+        """The parameters, or the members, of those that a reactor extends. Of two with one name the second is told."""
+        found: dict[int, tree.Parameter | tree.Part] = {}
+        homes: dict[str, tree.Name] = {}
+        for name, base in bases:
+            for each in getattr(base, part):
+                others = [text for text in tree.names_of(each) if homes.setdefault(text, name) is not name]
+                if id(each) not in found and others:
+                    self.report.error(name.at, f"`{homes[others[0]].text}` and `{name.text}` both have `{others[0]}`")
+                else:
+                    found[id(each)] = each
+        return found.values()
 
     def _base(self, name: tree.Name, it: tree.Reactor, around: tuple[tree.Reactor, ...]) -> list[tree.Reactor]:
         found = self.homes[self.report.number(name.at)].get(name.text)

@@ -351,6 +351,14 @@ class Mode:
 Part = Union[State, Ports, Action, Timer, Reaction, Instance, Connection, Function, Mode]
 
 
+def names_of(it: Union[Parameter, Part]) -> list[str]:
+    """The names that a parameter or a member declares."""
+    if isinstance(it, Ports):
+        return [place.name.text for place in it.places if not place.owner]
+    name = getattr(it, "name", None)
+    return [name.text] if name else []
+
+
 @dataclass(frozen=True)
 class Reactor:
     name: Optional[Name]

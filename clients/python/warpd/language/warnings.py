@@ -73,7 +73,7 @@ class ClassWarnings:
 
     def warn(self) -> None:
         for state in self.one.tree.every(State):
-            if state.name.text not in self.one.scope.read:
+            if state.name.text not in self.one.scope.read and not state.is_own:
                 text = f"`{state.name.text}` is never read by a reaction"
                 self.report.warning(state.name.at, text, "it can be asked for from outside by its name")
         self._cells()
