@@ -443,10 +443,9 @@ hosted("a connection that is lost is made again, and the log goes on", async ({ 
   assert.deepEqual(replica.confirmed, await hostVars(fresh, 2))
 })
 
-hosted("where memory ends it follows no more, and says so", async ({ engine, client, host }) => {
+/** An engine that has no memory once `state.isFull`. */
+function filling(engine, state) {
   const real = engine.another()
-  let isFull = false
-  // An engine that has no memory from some moment on.
   const full = {
     another: () => full,
     copy() {},
@@ -454,24 +453,47 @@ hosted("where memory ends it follows no more, and says so", async ({ engine, cli
     open(text) {
       const tab = real.open(text)
       const answer = lines => {
-        if (isFull) throw new NoMemory()
+        if (state.isFull) throw new NoMemory()
         return tab.answer(lines)
       }
       const opened = { answer, within: () => opened, vars: () => tab.vars(), horizon: () => tab.horizon(), released: () => [], drop() {} }
       return opened
     },
   }
-  const replica = new Replica(client(), { engine: full, program: PONG })
+  return full
+}
+
+hosted("where memory ends it follows no more, and says so", async ({ engine, client }) => {
+  const state = { isFull: false }
+  const replica = new Replica(client(), { engine: filling(engine, state), program: PONG })
   await replica.ready
   const told = []
   replica.onerror = error => told.push(error.name)
-  isFull = true
+  state.isFull = true
   const clock = client()
   await clock.ready
   await tickTo(clock, 1, 3)
   await until(() => told.length)
   await tickTo(clock, 4, 5)
   assert.deepEqual([told, replica.error instanceof NoMemory], [["NoMemory"], true])
+})
+
+hosted("where memory ends at a tick or at an own event, that is told too, and no further tick is executed", async ({ engine, client }) => {
+  for (const does of [replica => replica.frame(150), replica => assert.throws(() => replica.act("ann.steer", 1), NoMemory)]) {
+    const [state, told] = [{ isFull: false }, []]
+    const options = { engine: filling(engine, state), program: PONG, origin: 1, clock: { input: "clock.tick", hertz: 100 }, now: () => 100 }
+    const replica = await new Replica(client(), options).ready
+    replica.onerror = error => told.push(error.name)
+    const clock = client()
+    await clock.ready
+    await tickTo(clock, 1, 3)
+    await until(() => replica.records === 3)
+    const before = replica.vars
+    state.isFull = true
+    does(replica)
+    state.isFull = false
+    assert.deepEqual([told, replica.error instanceof NoMemory, replica.frame(200), replica.vars], [["NoMemory"], true, 0, before])
+  }
 })
 
 hosted("who is closed before the log has come is told so", async ({ client, replicaOf }) => {
@@ -498,6 +520,32 @@ hosted("who is closed tells what it had, also where an event was under way", asy
   await closed
   assert.equal(await act.answered, null)
   assert.deepEqual([replica.confirmed, replica.vars, replica.records, replica.frame()], [before, before, 3, 0])
+})
+
+hosted("who looks on sends no record, and cannot", async ({ host, client, engine }) => {
+  const [sent, clock] = [[], client()]
+  class Noting extends WebSocket {
+    send(text) {
+      sent.push(...`${text}`.split("\n"))
+      super.send(text)
+    }
+  }
+  const looking = new Client(host.url, { WebSocket: Noting })
+  try {
+    const replica = await new Replica(looking, { engine, program: PONG, clock: { input: "clock.tick", hertz: 100 } }).ready
+    await clock.ready
+    await tickTo(clock, 1, 5)
+    await until(() => replica.records === 5)
+    replica.frame()
+    replica.at(3)
+    await replica.ping()
+    assert.throws(() => replica.act("ann.steer", 1, { time: 9 }), TypeError)
+    await assert.rejects(replica.announce(), error => error instanceof TypeError && /^who acts or announces/.test(error.message))
+    assert.ok(sent.includes("horizon"))
+    assert.deepEqual([sent.filter(it => /^(event|withdraw|announce|collect)/.test(it)), (await clock.horizon()).log], [[], 5])
+  } finally {
+    looking.close()
+  }
 })
 
 hosted("a program that is not the host's is refused, and one that is only laid out in another way is not", async ({ client, engine }) => {
