@@ -47,8 +47,8 @@ class Truth:
 
     def at(self, time):
         """The variables by name, and each array's cells, as texts."""
-        arrays = [(name, first, count, sides) for name, first, count, *sides in self.names["arrays"]]
-        count = max(first + count for _, first, count, _ in arrays)
+        arrays = [(label.partition("[")[0], first, count) for label, first, count in self.names["arrays"]]
+        count = max(first + count for _, first, count in arrays)
         given = [line for line in self.lines if int(line.split()[2]) <= time] + [f"var {it}" for it in range(count)]
         text = "".join(f"{line}\n" for line in given)
         done = subprocess.run([self.program, "run", TANKS], input=text, capture_output=True, text=True, timeout=SECONDS, check=True)
@@ -56,7 +56,7 @@ class Truth:
         same(len(values), count, "how many variables the program tells")
         hidden = self.names.get("hidden", [])
         told = {name: values[at] for at, name in enumerate(self.names["vars"]) if at not in hidden}
-        return told, {name: values[first:first + count] for name, first, count, _ in arrays}
+        return told, {name: values[first:first + count] for name, first, count in arrays}
 
 
 def words_of(name, sides, cells):
@@ -81,10 +81,11 @@ def shows(browser, truth, time, slides=True):
 
 def laid(engine, folder):
     """A site with the page, laid as the guide says; no file of it takes another's place."""
-    blocks = re.findall(r"^```\n(.*?)^```$", (ROOT / "docs" / "guide" / "tab.md").read_text(), re.M | re.S)
+    shown = re.findall(r"^```(\w*)\n(.*?)^```$", (ROOT / "docs" / "guide" / "tab.md").read_text(), re.M | re.S)
+    laying, _, adding = (text.splitlines() for kind, text in shown if not kind)
     for name in ("clients", "examples"):
         (folder / name).symlink_to(ROOT / name)
-    for line in [*blocks[0].splitlines(), *blocks[2].splitlines()]:
+    for line in laying + adding:
         subprocess.run(line.replace("clients/wasm/build", f"cp {engine}"), shell=True, cwd=folder, check=True)
     for file in (ROOT / "clients" / "js").glob("*.js"):
         same((folder / "game" / file.name).read_text(), file.read_text(), f"{file.name} in the site")
@@ -109,12 +110,13 @@ def goes_back(browser, program, engine):
         told, arrays = shows(browser, truth, 32)
         same(browser.run(MARKED), [it for it in told if told[it] != before[it]], "what is marked")
         holds(browser.run(COLOURS) > 3, "the board has no colours")
-        # The page goes on with what comes: a move at a time that is gone, which changes what is shown of the past.
-        late = "event 1 20 5 2 2"
+        # A move at a time that is gone changes what is shown of the past.
+        late = "event 1 20 5 1 0"
         talk.tell((late, f"taken {len(truth.lines) + 1}"))
         truth.lines.append(late)
         browser.wait_text("state", f"{len(truth.lines)} records")
-        holds(shows(browser, truth, 33)[1] != truth.at(32)[1] and truth.at(32)[1] != arrays, "the late move changes nothing")
+        holds(shows(browser, truth, 32, slides=False)[1] != arrays, "the late move changes nothing")
+        shows(browser, truth, 33)
         shows(browser, truth, 32)
         browser.choose("board", "field.painted, 5")
         browser.wait(f"{LABEL} === {words_of('field.painted', (1, 5), truth.at(32)[1]['field.painted'])!r}", "another array")

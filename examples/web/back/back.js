@@ -13,7 +13,7 @@ const token = decodeURIComponent(location.hash.slice(1)) || undefined
 const board = new Board(at("cells"), at("colours"))
 /** @type {Replica} */
 let replica
-/** @type {import("./scrubber.js").PastState | null} What is shown, where it is not what is so now; and the values that were shown before. */
+/** @type {import("./scrubber.js").PastState | null} What was so at the time that is chosen, if one is; and the values that were shown before. */
 let past = null
 /** @type {Record<string, import("./warpd.js").Value>} */
 let before = {}
@@ -33,6 +33,12 @@ function touch() {
   isDrawn = true
 }
 
+/** @param {import("./scrubber.js").PastState | null} what What was so at a time, or null for now. */
+function show(what) {
+  past = what
+  touch()
+}
+
 function draw() {
   isDrawn = false
   const vars = past ? past.vars : replica.vars
@@ -46,6 +52,7 @@ function draw() {
 
 /** @param {typeof before} vars */
 function drawVars(vars) {
+  if (vars === before) return
   const names = Object.keys(vars)
   const rows = at("vars").rows.length === names.length ? [...at("vars").rows] : names.map(name => {
     const row = document.createElement("tr")
@@ -73,13 +80,12 @@ async function main() {
   replica = new Replica(client, { engine: await Engine.load(bytes), program })
   await replica.ready
   at("board").append(...client.names.arrays.map(({ name, sides }) => new Option(`${name}, ${sides.join(" by ")}`, name)))
-  replica.onchange = touch
+  replica.onchange = () => past || touch()
+  // What comes late changes what was so.
+  replica.onrollback = ({ to }) => past && to.time <= past.time && show({ ...past, vars: replica.at(past.time) })
   at("board").addEventListener("change", touch)
   const span = Number(new URLSearchParams(location.search).get("span")) || Infinity
-  scrubber(replica, { parent: at("past"), span, show: it => {
-    past = it
-    touch()
-  } })
+  scrubber(replica, { parent: at("past"), span, show })
   setInterval(tell, 200)
   tell()
   touch()
