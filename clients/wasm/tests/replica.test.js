@@ -207,6 +207,9 @@ hosted("what is final is told once, in order, and never before the host's log ha
   await Promise.all([ticker.announce({ time: 91 }), ben.announce({ time: 91 })])
   await until(() => replica.records === 92)
   assert.deepEqual([final, replica.horizon], [[], { time: 0, micro: 0 }])
+  await replica.announce({ time: 40 })
+  await until(() => replica.horizon.time === 40)
+  assert.deepEqual(final, [[0, 34, "ball.point"]])
   await replica.announce({ time: 91 })
   await until(() => replica.horizon.time === 91)
   const { count } = await clock.released()
@@ -236,6 +239,61 @@ hosted("ticks that are due are executed before they come, and one that is passed
   await until(() => replica.records === 5)
   assert.equal(replica.stats.rebuilt, 1)
   assert.deepEqual(replica.vars, await hostVars(clock, 5))
+})
+
+/** A replica whose own events wait here once `state.isHeld`, and are counted. */
+async function holding({ host, engine }, options) {
+  const state = { isHeld: false, count: 0 }
+  class Holding extends WebSocket {
+    send(text) {
+      if (state.isHeld && /^event /m.test(`${text}`)) state.count += 1
+      else super.send(text)
+    }
+  }
+  const client = new Client(host.url, { WebSocket: Holding })
+  return { state, client, replica: await new Replica(client, { engine, program: PONG, origin: 1, ...options }).ready }
+}
+
+hosted("what is final is told of the host's log, and not of what is shown", async given => {
+  const { state, client, replica } = await holding(given)
+  try {
+    const [clock, final] = [given.client(), []]
+    replica.onfinal = row => final.push([row.time, row.value])
+    await clock.ready
+    const origins = [0, 1, 2].map(it => new Announcer(clock, it))
+    state.isHeld = true
+    // Ann would be where the ball comes at 34. Meanwhile another has announced for her, so at the host it is final that she is not.
+    replica.act("ann.steer", -1, { time: 30 })
+    await Promise.all(Array.from({ length: 40 }, (_, at) => origins[0].event("clock.tick", { time: at + 1, value: 1 })))
+    await Promise.all(origins.map(it => it.announce({ time: 41 })))
+    await until(() => replica.horizon.time === 41)
+    assert.deepEqual([state.count, replica.outputs(), final], [1, [], [[34, 2n]]])
+  } finally {
+    client.close()
+  }
+})
+
+hosted("what is shown anew has own events that wait, and ticks that are expected", async given => {
+  let now = 0
+  const { state, client, replica } = await holding(given, { now: () => now, clock: { input: "clock.tick", hertz: 100 } })
+  try {
+    const clock = given.client()
+    await clock.ready
+    now = 100
+    await tickTo(clock, 10, 10)
+    await until(() => replica.records === 1)
+    now = 130
+    assert.equal(replica.frame(), 3)
+    state.isHeld = true
+    assert.equal(replica.act("ann.steer", 1).time, 14)
+    // Tick 11 is passed over.
+    await tickTo(clock, 12, 12)
+    await until(() => replica.records === 2)
+    const { vars, confirmed, stats } = replica
+    assert.deepEqual([stats.rebuilt, vars["ann.goes"], vars["ball.x"], confirmed["ann.goes"], confirmed["ball.x"]], [1, 1n, 15n, 0n, 14n])
+  } finally {
+    client.close()
+  }
 })
 
 /** How many ticks each of so many pictures brings, one every 10 milliseconds, where each tick is heard so much after it was due. */
