@@ -241,6 +241,19 @@ hosted("ticks that are due are executed before they come, and one that is passed
   assert.deepEqual(replica.vars, await hostVars(clock, 5))
 })
 
+hosted("a tick that comes with another value than was expected is taken as it came", async ({ replicaOf, client }) => {
+  let now = 100
+  const [replica, clock] = [await replicaOf({ now: () => now, clock: { input: "clock.tick", hertz: 100 } }), client()]
+  await clock.ready
+  await tickTo(clock, 10, 10)
+  await until(() => replica.records === 1)
+  now = 130
+  assert.equal(replica.frame(), 3)
+  await clock.event("clock.tick", { time: 11, value: 7 })
+  await until(() => replica.records === 2)
+  assert.deepEqual([replica.stats.rebuilt, replica.tick], [1, { time: 13, ahead: 2 }])
+})
+
 /** A replica whose own events wait here once `state.isHeld`, and are counted. */
 async function holding({ host, engine }, options) {
   const state = { isHeld: false, count: 0 }
@@ -439,7 +452,18 @@ hosted("what was so at a time is told of the host's log", async ({ replicaOf, cl
   assert.equal(rows[3], replica.vars["ball.x"])
   assert.deepEqual(replica.at(30), replica.confirmed)
   assert.equal(replica.at(0)["ball.x"], 12n)
+  // What comes late changes what was so, also at the time that was asked for last.
+  assert.equal(replica.at(25)["ann.goes"], 0n)
+  await clock.event("ann.steer", { time: 20, value: 1 })
+  await until(() => replica.records === 31)
+  assert.deepEqual([replica.at(25)["ann.goes"], replica.at(19)["ann.goes"]], [1n, 0n])
 })
+
+hosted("what was so at a time has timers and delays up to there", async ({ replicaOf }) => {
+  const replica = await replicaOf({})
+  const times = [1, 2, 5, 6, 8, 9].map(time => [replica.at(time)["p.k"], replica.at(time)["q.s"]])
+  assert.deepEqual(times, [[100n, 0n], [101n, 0n], [102n, 0n], [102n, 101n], [103n, 101n], [103n, 203n]])
+}, { text: program("pulse") })
 
 hosted("what is let go of behind the horizon changes nothing that is told, and what comes late is taken in", async ({ replicaOf, client }) => {
   const asked = []
@@ -487,18 +511,20 @@ hosted("a board is told as it is shown, and as it was", async ({ replicaOf, clie
 }, { text: program("tanks") })
 
 hosted("a connection that is lost is made again, and the log goes on", async ({ host, replicaOf, client }) => {
-  const replica = await replicaOf({ origin: 1 })
+  const [replica, clock] = [await replicaOf({ origin: 1 }), client()]
+  await clock.ready
   await replica.act("ann.steer", 1, { time: 7 }).answered
-  await until(() => replica.records === 1)
+  await tickTo(clock, 12, 12)
+  await until(() => replica.records === 2)
   await host.stop()
   const late = replica.act("ann.steer", -1, { time: 9 })
-  assert.equal(replica.vars["ann.goes"], -1n)
+  assert.deepEqual([replica.vars["ann.goes"], replica.newest.time], [-1n, 12])
   await host.start()
-  // The host began anew with no record: the announcer says again what it had sent, and the replica begins from the new log.
+  // The host began anew with no record: the announcer says again what it had sent, nobody says the tick, and the replica begins from the new log.
   assert.ok(await late.answered)
   const fresh = client()
-  await until(() => replica.records === 2 && replica.vars["ann.goes"] === -1n)
-  assert.deepEqual(replica.confirmed, await hostVars(fresh, 2))
+  await until(() => replica.records === 2 && replica.newest.time === 9)
+  assert.deepEqual([replica.confirmed, replica.vars["ann.goes"]], [await hostVars(fresh, 2), -1n])
 })
 
 /** An engine that has no memory once `state.isFull`. */
