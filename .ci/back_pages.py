@@ -140,7 +140,8 @@ def wants_token(browser, program, engine):
         tokens = Path(name) / ".tokens"
         tokens.write_text("secret read\n")
         tokens.chmod(0o600)
-        with Hosted(program, TANKS, "--site", laid(engine, Path(name)), "--tokens", tokens) as host:
+        # A browser may connect and ask for nothing.
+        with Hosted(program, TANKS, "--site", laid(engine, Path(name)), "--tokens", tokens, remarks=["clients closed: "]) as host:
             address = f"http://{host.address[0]}:{host.address[1]}/site/back.html"
             browser.open(address)
             browser.wait_text("state", "This page cannot go on: the host wants a token: write it behind the address, as #TOKEN")

@@ -105,6 +105,23 @@ test("a copy of an engine has what that has, and what is tried in it is unknown 
   assert.deepEqual([...copy.vars()], [...tab.vars()])
 })
 
+test("a copy is exact at each size, also in an engine that had much itself", async () => {
+  const engine = await Engine.load(MODULE)
+  const [copied, tab] = [engine.another(), engine.open(PONG)]
+  // The copy's own room stands where the other's records come to be.
+  copied.open(program("door")).answer("outputs\n".repeat(20_000))
+  let asked = ""
+  for (let first = 1; first < 12_000; first += 750) {
+    const times = Array.from({ length: 750 }, (_, at) => first + at)
+    tab.answer(times.map(time => `event 0 ${time} 0 0 1\n`).join(""))
+    asked += times.map(time => `log ${time}\n`).join("")
+    copied.copy(engine)
+    const copy = tab.within(copied)
+    assert.ok(copy.answer(`${asked}outputs\n`) === tab.answer(`${asked}outputs\n`), `a copy of ${times.at(-1)} records`)
+    assert.deepEqual([...copy.vars()], [...tab.vars()])
+  }
+})
+
 test("a fork has the same log, what is tried in it is unknown to the first, and its drop takes nothing along", async () => {
   const engine = await Engine.load(MODULE)
   const tab = engine.open(program("twice"))
