@@ -210,7 +210,7 @@ hosted("what the host refuses is taken back, and told", async ({ replicaOf, clie
   const act = replica.act("ann.steer", 1, { time: 10 })
   assert.equal(replica.vars["ann.goes"], 1n)
   assert.equal(await act.answered, null)
-  assert.deepEqual([told, replica.vars["ann.goes"], replica.stats.rebuilt], [[[10, "RangeError"]], 0n, 1])
+  assert.deepEqual([told, replica.vars["ann.goes"], replica.stats.rebuilt, replica.stats.refused], [[[10, "RangeError"]], 0n, 1, 1])
   assert.equal((await hostVars(other, 1))["ann.goes"], 0n)
 })
 
