@@ -1,5 +1,5 @@
-"""The page of examples/web/back in a browser, for `.ci/tab`: for each time that is chosen it shows variables and boards as the built program
-has them over the records up to there, also behind a record that came late; it asks its own host alone, and sends it no record."""
+"""The page of examples/web/back in a browser, for `.ci/tab`: for each time that is chosen it shows variables and boards as the built
+program has them over the records up to there, also behind a record that came late; it asks its own host alone, and sends it no record."""
 
 import json
 import random

@@ -13,9 +13,9 @@ const token = decodeURIComponent(location.hash.slice(1)) || undefined
 const board = new Board(at("cells"), at("colours"))
 /** @type {Replica} */
 let replica
-/** @type {import("./scrubber.js").PastState | null} What was so at the time that is chosen, if one is; and the values that were shown before. */
+/** @type {import("./scrubber.js").PastState | null} What was so at the time that is chosen, if one is. */
 let past = null
-/** @type {Record<string, import("./warpd.js").Value>} */
+/** @type {Record<string, import("./warpd.js").Value>} The values that were shown before. */
 let before = {}
 let isDrawn = false
 
@@ -68,9 +68,10 @@ function drawVars(vars) {
 }
 
 function tell() {
-  const { state, names } = replica.client
-  const size = `${replica.records} record${replica.records === 1 ? "" : "s"}, up to ${replica.newest.time}; all before ${replica.horizon.time} is final`
-  at("state").textContent = replica.error?.message ?? (state === "open" ? `${size}.` : `The connection is lost: what is shown is what the page has. ${size}.`)
+  const { client: { state, names }, records, newest, horizon } = replica
+  const size = `${records} record${records === 1 ? "" : "s"}, up to ${newest.time}; all before ${horizon.time} is final.`
+  const lost = "The connection is lost: what is shown is what the page has."
+  at("state").textContent = replica.error?.message ?? (state === "open" ? size : `${lost} ${size}`)
   at("boards").hidden = !names.arrays.length
 }
 
