@@ -8,7 +8,7 @@ const named = it => ["", "Coral", "Teal", "Amber", "Violet"][Number(it)]
 const COLOURS = ["#1b202a", "#ff6f61", "#2ec4b6", "#ffc145", "#9b86ff"]
 const WAYS = ["", "ArrowRight", "ArrowDown", "ArrowLeft", "ArrowUp"]
 // So often, in milliseconds, the page says that it is there. Where it could not for so long it leaves: the seat may be another's.
-const [KEEP_EVERY, SILENT] = [700, 6_000]
+const [KEEP_EVERY, SILENT] = [700, 12_000]
 const at = id => document.getElementById(id)
 onerror = message => (at("state").textContent = message)
 const put = (parent, tag, lines) => at(parent).replaceChildren(...lines.map(it => Object.assign(document.createElement(tag), it)))
