@@ -271,6 +271,20 @@ hosted("a tick that comes with another value than was expected is taken as it ca
   assert.deepEqual([replica.stats.rebuilt, replica.tick], [1, { time: 13, ahead: 2 }])
 })
 
+hosted("what is announced leaves room for what one does next, and for nothing before it", async ({ replicaOf, client }) => {
+  const ticker = client()
+  await ticker.ready
+  await tickTo(ticker, 10, 10)
+  for (const [origin, name, smooth] of [[1, "ann", null], [2, "ben", { "ben.row": {} }]]) {
+    const replica = await replicaOf({ origin, smooth, now: () => 100, clock: { input: "clock.tick", hertz: 100 } })
+    replica.frame()
+    await replica.announce()
+    const { time, answered } = replica.act(`${name}.steer`, 1)
+    assert.ok(await answered, `${name} at ${time}`)
+    assert.equal(await replica.act(`${name}.steer`, -1, { time: time - 1 }).answered, null)
+  }
+})
+
 /** A replica whose own events wait here once `state.isHeld`, and are counted. */
 async function holding({ host, engine }, options) {
   const state = { isHeld: false, count: 0 }
