@@ -13,7 +13,7 @@ sys.path.insert(0, str(Path(__file__).resolve().parent.parent / "clients" / "pyt
 from warpd import HostClient  # noqa: E402
 
 OVER = "The game is over, and all of it is final."
-DELAY, TICK, TICKS, TICKS_ALONE = 200, 50, 1_200, 400
+DELAY, TICK, TICKS, TICKS_ALONE = 200, 50, 1_500, 400
 # How long a game may take beyond its ticks, in seconds.
 MORE_SECONDS = 60
 PRESSES = 12
