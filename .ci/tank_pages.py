@@ -13,7 +13,7 @@ sys.path.insert(0, str(Path(__file__).resolve().parent.parent / "clients" / "pyt
 from warpd import HostClient  # noqa: E402
 
 OVER = "The game is over, and all of it is final."
-DELAY, TICK, TICKS, TICKS_ALONE = 200, 50, 1_200, 400
+DELAY, TICK, TICKS, TICKS_ALONE = 200, 50, 1_500, 400
 # How long a game may take beyond its ticks, in seconds.
 MORE_SECONDS = 60
 PRESSES = 12
@@ -63,7 +63,8 @@ setInterval(() => {
 HAS = """const arrays = Object.fromEntries(arguments[0].map(it => [it, [...replica.array(`field.${it}`)].map(Number)]))
 const vars = it => Object.values(it).map(Number)
 return { ...arrays, vars: vars(replica.vars), confirmed: vars(replica.confirmed), refused: replica.stats.refused }"""
-PAINTED = "return [...replica.array('field.board')].filter(it => it && Number(it >> 3n) < {}).length"
+# The board as it was at a time, where that is final; else null.
+PAINTED = "return replica.horizon.time > arguments[0] ? [...replica.array('field.board', arguments[0])].map(Number) : null"
 
 
 @contextmanager
@@ -134,6 +135,11 @@ def is_gone(browser, other, seat):
     browser.wait(f"return replica.horizon.time > {now}", "what is final goes on")
 
 
+def painted_at(browser, tick):
+    """The board as the page in front has it behind a tick, once that is final."""
+    return wait_for(lambda: browser.run(PAINTED, tick), "what was painted is final", MORE_SECONDS)
+
+
 def has(browser, handle):
     """What a page has in the end, which is all that there is: what it shows is what the host's log says."""
     browser.driver.switch_to.window(handle)
@@ -188,8 +194,10 @@ def played(browser, program, engine):
             browser.run(ROAM, seed)
         browser.wait("return replica.array('field.painted')[1] > 20n", "Coral has painted")
         began = browser.run("return replica.tick.time")
+        painted = painted_at(browser, began)
+        holds(sum(map(bool, painted)) > 20, "too little was painted")
         sit(browser, third, address, 3)
-        holds(browser.run(PAINTED.format(began)) > 20, "who comes late lacks what was painted before")
+        same(painted_at(browser, began), painted, "what was painted before, for who comes late")
         browser.run(ROAM, 13)
         leave(browser, first, third, 1)
         sit(browser, last, address, 1)

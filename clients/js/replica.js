@@ -228,7 +228,8 @@ export class Replica {
     for (const name of this.#smooth?.names ?? []) this.#names.var(name)
     this.#setClock()
     if (this.origin !== null) this.#announcer = new Announcer(this.client, this.origin)
-    this.client.onReopened(() => this.#reopened().catch(() => {}))
+    // A connection that is lost meanwhile is made again, too.
+    this.client.onReopened(() => this.#reopened().catch(error => error instanceof Ended || this.#fail(error)))
     this.#follow(1)
     await this.#watch.started
     await this.#came((await this.client.horizon()).log)
@@ -297,14 +298,23 @@ export class Replica {
   #take() {
     this.#isWaiting = false
     if (!this.#arrived.length || this.error || this.#isClosed) return
-    try {
+    this.#tried(() => {
       this.#enter(this.#arrived.splice(0))
+      this.#changed()
+      this.#tellFinals()
+    })
+  }
+
+  /** Whether this could be done: where memory ends it follows the host no more. */
+  #tried(body) {
+    try {
+      body()
+      return true
     } catch (error) {
       if (!(error instanceof NoMemory)) throw error
-      return this.#fail(error)
+      this.#fail(error)
+      return false
     }
-    this.#changed()
-    this.#tellFinals()
   }
 
   /** Enters records of the host's log. */
@@ -416,6 +426,12 @@ export class Replica {
     }
   }
 
+  /** What sends for one's own origin. */
+  get #sender() {
+    if (!this.#announcer) throw new TypeError("who acts or announces says whose events these are, as { origin }, and waits until it is ready")
+    return this.#announcer
+  }
+
   /** The first tag at or behind this time that no event of one's own has. */
   #freeTag(time) {
     let place = placeOf({ time, micro: 0 })
@@ -429,23 +445,26 @@ export class Replica {
    * `answered` of it is resolved with what the host answered, or with null where that refused it.
    */
   act(input, value, { time } = {}) {
-    if (!this.#announcer) throw new TypeError("who acts says whose events these are, as { origin }")
+    const sender = this.#sender
     const at = time ?? this.#clock?.acting
     if (at === undefined) throw new TypeError("there is no clock: say when, as { time }")
     const record = { kind: "event", origin: this.origin, ...this.#freeTag(at), input: this.#names.input(input), value: BigInt(value) }
     const line = lineOf(record)
     this.#used.add(placeOf(record))
     this.#own.set(line, record)
-    this.#give(this.#shown, [line])
-    this.#changed(true)
-    return { ...record, answered: this.#send(line, record) }
+    const isShown = this.#tried(() => {
+      this.#give(this.#shown, [line])
+      this.#changed(true)
+    })
+    if (!isShown) throw this.error
+    return { ...record, answered: this.#send(sender, line, record) }
   }
 
-  async #send(line, record) {
+  async #send(sender, line, record) {
     const began = this.now()
     try {
       // It waits until the host's log brings it, which may be later.
-      const taken = await this.#announcer.event(record.input, record)
+      const taken = await sender.event(record.input, record)
       this.stats.answered = this.now() - began
       return taken
     } catch (error) {
@@ -453,7 +472,7 @@ export class Replica {
       this.#own.delete(line)
       if (error instanceof Refused || error instanceof RangeError) this.stats.refused += 1
       this.#used.delete(placeOf(record))
-      this.#rebuild(placeOf(record), newest)
+      this.#tried(() => this.#rebuild(placeOf(record), newest))
       this.onrefused?.(record, error)
       return null
     }
@@ -461,7 +480,7 @@ export class Replica {
 
   /** Announces that no event of one's own comes any more before this tag; where none is given, before the tick at which one acts. */
   async announce({ time = this.#clock?.acting ?? 1, micro = 0 } = {}) {
-    return this.#announcer.announce({ time, micro })
+    return this.#sender.announce({ time, micro })
   }
 
   /**
@@ -470,16 +489,20 @@ export class Replica {
    */
   frame(now = this.now()) {
     this.#take()
-    const due = this.#clock?.due(now) ?? 0
+    const due = this.error || this.#isClosed ? 0 : this.#clock?.due(now) ?? 0
+    const isDone = due > 0 && this.#tried(() => this.#tick(due))
+    this.#framed = now
+    if (this.#smooth) this.smooth = this.#smooth.at(now)
+    return isDone ? due : 0
+  }
+
+  /** Executes so many ticks. */
+  #tick(due) {
     // What glides goes from the last tick but one to the last.
-    const parts = this.#smooth && due > 1 ? [due - 1, 1] : [due]
-    for (const count of due ? parts : []) {
+    for (const count of this.#smooth && due > 1 ? [due - 1, 1] : [due]) {
       this.#give(this.#shown, this.#clock.next(count))
       this.#changed()
     }
-    this.#framed = now
-    if (this.#smooth) this.smooth = this.#smooth.at(now)
-    return due
   }
 
   /** Asks the host for little, and gives how many milliseconds it took to be answered. */

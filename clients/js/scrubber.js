@@ -34,14 +34,23 @@ export function scrubber(replica, { show, parent = document.body, span = Infinit
     Object.assign(slider, { min: Math.max(0, newest - span), max: newest })
     if (chosen === null) slider.value = newest
   }
+  /** What was so at a time; null where that cannot be told, which is said beside the slider. */
+  const stateAt = async time => {
+    try {
+      return { time, vars: await replica.at(time), array: name => replica.array(name, time) }
+    } catch (error) {
+      if (time === chosen) told.textContent = error.message
+      return null
+    }
+  }
   const ask = async () => {
     if (isAsking) return
     isAsking = true
     try {
       for (let time; time !== chosen; ) {
         time = chosen
-        const vars = time === null ? null : await replica.at(time)
-        if (time === chosen) show(time === null ? null : { time, vars, array: name => replica.array(name, time) })
+        const past = time === null ? null : await stateAt(time)
+        if (time === chosen && (past || time === null)) show(past)
       }
     } finally {
       isAsking = false

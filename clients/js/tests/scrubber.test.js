@@ -33,14 +33,14 @@ class Stand extends EventTarget {
 /** A slider at ticks 0 to 50, and what it asked for and showed. */
 function begun({ span = Infinity } = {}) {
   Object.assign(globalThis, { document: { createElement: () => new Stand() } })
-  /** @type {{ time: number, answer: (vars: object) => void }[]} */
+  /** @type {{ time: number, answer: (vars: object) => void, fail: (error: Error) => void }[]} */
   const asked = []
   /** @type {any[]} */
   const shown = []
   /** @type {any} */
   const replica = {
     newest: { time: 50, micro: 0 },
-    at: (/** @type {number} */ time) => new Promise(answer => asked.push({ time, answer })),
+    at: (/** @type {number} */ time) => new Promise((answer, fail) => asked.push({ time, answer, fail })),
     array: (/** @type {string} */ name, /** @type {number} */ time) => `${name} at ${time}`,
   }
   /** @type {any} */
@@ -81,4 +81,21 @@ test("it goes back so far as it is said, and its end leaves nothing behind", asy
   await turn()
   made.stop()
   assert.deepEqual([shown.length, shown[1], parent.parts[0].isThere], [2, null, false])
+})
+
+test("what cannot be told is said beside the slider, and the next time is asked for", async () => {
+  const { asked, shown, made, told, slide, turn } = begun()
+  slide(30)
+  asked[0].fail(new Error("no memory"))
+  await turn()
+  assert.deepEqual([told.textContent, shown], ["no memory", []])
+  slide(20)
+  slide(10)
+  asked[1].fail(new Error("no memory"))
+  await turn()
+  assert.equal(told.textContent, "at 10")
+  asked[2].answer({ x: 1n })
+  await turn()
+  assert.deepEqual([asked.map(it => it.time), shown.map(it => it.time)], [[30, 20, 10], [10]])
+  made.stop()
 })

@@ -45,12 +45,14 @@ function told(tab, { lines, isSingly }, engine) {
   const counts = { again: 0 }
   const given = bytesOf(lines)
   const replies = (isSingly ? linesOf(given) : [given]).map(part => twice(counts, () => tab.answerBytes(part)))
+  const unanswered = counts.again
   const vars = twice(counts, () => tab.vars())
   const horizon = twice(counts, () => tab.horizon())
   const released = twice(counts, () => tab.released())
   const last = twice(counts, () => tab.released(Math.max(0, released.length - 1)))
   return {
     ...counts,
+    unanswered,
     left: engine.refuse(0),
     replies: textOf(replies),
     vars: Array.from(vars, String),

@@ -105,6 +105,23 @@ test("a copy of an engine has what that has, and what is tried in it is unknown 
   assert.deepEqual([...copy.vars()], [...tab.vars()])
 })
 
+test("a copy is exact at each size, also in an engine that had much itself", async () => {
+  const engine = await Engine.load(MODULE)
+  const [copied, tab] = [engine.another(), engine.open(PONG)]
+  // The copy's own room stands where the other's records come to be.
+  copied.open(program("door")).answer("outputs\n".repeat(20_000))
+  let asked = ""
+  for (let first = 1; first < 12_000; first += 750) {
+    const times = Array.from({ length: 750 }, (_, at) => first + at)
+    tab.answer(times.map(time => `event 0 ${time} 0 0 1\n`).join(""))
+    asked += times.map(time => `log ${time}\n`).join("")
+    copied.copy(engine)
+    const copy = tab.within(copied)
+    assert.ok(copy.answer(`${asked}outputs\n`) === tab.answer(`${asked}outputs\n`), `a copy of ${times.at(-1)} records`)
+    assert.deepEqual([...copy.vars()], [...tab.vars()])
+  }
+})
+
 test("a fork has the same log, what is tried in it is unknown to the first, and its drop takes nothing along", async () => {
   const engine = await Engine.load(MODULE)
   const tab = engine.open(program("twice"))
@@ -193,7 +210,7 @@ hosted("what the host refuses is taken back, and told", async ({ replicaOf, clie
   const act = replica.act("ann.steer", 1, { time: 10 })
   assert.equal(replica.vars["ann.goes"], 1n)
   assert.equal(await act.answered, null)
-  assert.deepEqual([told, replica.vars["ann.goes"], replica.stats.rebuilt], [[[10, "RangeError"]], 0n, 1])
+  assert.deepEqual([told, replica.vars["ann.goes"], replica.stats.rebuilt, replica.stats.refused], [[[10, "RangeError"]], 0n, 1, 1])
   assert.equal((await hostVars(other, 1))["ann.goes"], 0n)
 })
 
@@ -207,6 +224,9 @@ hosted("what is final is told once, in order, and never before the host's log ha
   await Promise.all([ticker.announce({ time: 91 }), ben.announce({ time: 91 })])
   await until(() => replica.records === 92)
   assert.deepEqual([final, replica.horizon], [[], { time: 0, micro: 0 }])
+  await replica.announce({ time: 40 })
+  await until(() => replica.horizon.time === 40)
+  assert.deepEqual(final, [[0, 34, "ball.point"]])
   await replica.announce({ time: 91 })
   await until(() => replica.horizon.time === 91)
   const { count } = await clock.released()
@@ -236,6 +256,88 @@ hosted("ticks that are due are executed before they come, and one that is passed
   await until(() => replica.records === 5)
   assert.equal(replica.stats.rebuilt, 1)
   assert.deepEqual(replica.vars, await hostVars(clock, 5))
+})
+
+hosted("a tick that comes with another value than was expected is taken as it came", async ({ replicaOf, client }) => {
+  let now = 100
+  const [replica, clock] = [await replicaOf({ now: () => now, clock: { input: "clock.tick", hertz: 100 } }), client()]
+  await clock.ready
+  await tickTo(clock, 10, 10)
+  await until(() => replica.records === 1)
+  now = 130
+  assert.equal(replica.frame(), 3)
+  await clock.event("clock.tick", { time: 11, value: 7 })
+  await until(() => replica.records === 2)
+  assert.deepEqual([replica.stats.rebuilt, replica.tick], [1, { time: 13, ahead: 2 }])
+})
+
+hosted("what is announced leaves room for what one does next, and for nothing before it", async ({ replicaOf, client }) => {
+  const ticker = client()
+  await ticker.ready
+  await tickTo(ticker, 10, 10)
+  for (const [origin, name, smooth] of [[1, "ann", null], [2, "ben", { "ben.row": {} }]]) {
+    const replica = await replicaOf({ origin, smooth, now: () => 100, clock: { input: "clock.tick", hertz: 100 } })
+    replica.frame()
+    await replica.announce()
+    const { time, answered } = replica.act(`${name}.steer`, 1)
+    assert.ok(await answered, `${name} at ${time}`)
+    assert.equal(await replica.act(`${name}.steer`, -1, { time: time - 1 }).answered, null)
+  }
+})
+
+/** A replica whose own events wait here once `state.isHeld`, and are counted. */
+async function holding({ host, engine }, options) {
+  const state = { isHeld: false, count: 0 }
+  class Holding extends WebSocket {
+    send(text) {
+      if (state.isHeld && /^event /m.test(`${text}`)) state.count += 1
+      else super.send(text)
+    }
+  }
+  const client = new Client(host.url, { WebSocket: Holding })
+  return { state, client, replica: await new Replica(client, { engine, program: PONG, origin: 1, ...options }).ready }
+}
+
+hosted("what is final is told of the host's log, and not of what is shown", async given => {
+  const { state, client, replica } = await holding(given)
+  try {
+    const [clock, final] = [given.client(), []]
+    replica.onfinal = row => final.push([row.time, row.value])
+    await clock.ready
+    const origins = [0, 1, 2].map(it => new Announcer(clock, it))
+    state.isHeld = true
+    // Ann would be where the ball comes at 34. Meanwhile another has announced for her, so at the host it is final that she is not.
+    replica.act("ann.steer", -1, { time: 30 })
+    await Promise.all(Array.from({ length: 40 }, (_, at) => origins[0].event("clock.tick", { time: at + 1, value: 1 })))
+    await Promise.all(origins.map(it => it.announce({ time: 41 })))
+    await until(() => replica.horizon.time === 41)
+    assert.deepEqual([state.count, replica.outputs(), final], [1, [], [[34, 2n]]])
+  } finally {
+    client.close()
+  }
+})
+
+hosted("what is shown anew has own events that wait, and ticks that are expected", async given => {
+  let now = 0
+  const { state, client, replica } = await holding(given, { now: () => now, clock: { input: "clock.tick", hertz: 100 } })
+  try {
+    const clock = given.client()
+    await clock.ready
+    now = 100
+    await tickTo(clock, 10, 10)
+    await until(() => replica.records === 1)
+    now = 130
+    assert.equal(replica.frame(), 3)
+    state.isHeld = true
+    assert.equal(replica.act("ann.steer", 1).time, 14)
+    // Tick 11 is passed over.
+    await tickTo(clock, 12, 12)
+    await until(() => replica.records === 2)
+    const { vars, confirmed, stats } = replica
+    assert.deepEqual([stats.rebuilt, vars["ann.goes"], vars["ball.x"], confirmed["ann.goes"], confirmed["ball.x"]], [1, 1n, 15n, 0n, 14n])
+  } finally {
+    client.close()
+  }
 })
 
 /** How many ticks each of so many pictures brings, one every 10 milliseconds, where each tick is heard so much after it was due. */
@@ -381,7 +483,18 @@ hosted("what was so at a time is told of the host's log", async ({ replicaOf, cl
   assert.equal(rows[3], replica.vars["ball.x"])
   assert.deepEqual(replica.at(30), replica.confirmed)
   assert.equal(replica.at(0)["ball.x"], 12n)
+  // What comes late changes what was so, also at the time that was asked for last.
+  assert.equal(replica.at(25)["ann.goes"], 0n)
+  await clock.event("ann.steer", { time: 20, value: 1 })
+  await until(() => replica.records === 31)
+  assert.deepEqual([replica.at(25)["ann.goes"], replica.at(19)["ann.goes"]], [1n, 0n])
 })
+
+hosted("what was so at a time has timers and delays up to there", async ({ replicaOf }) => {
+  const replica = await replicaOf({})
+  const times = [1, 2, 5, 6, 8, 9].map(time => [replica.at(time)["p.k"], replica.at(time)["q.s"]])
+  assert.deepEqual(times, [[100n, 0n], [101n, 0n], [102n, 0n], [102n, 101n], [103n, 101n], [103n, 203n]])
+}, { text: program("pulse") })
 
 hosted("what is let go of behind the horizon changes nothing that is told, and what comes late is taken in", async ({ replicaOf, client }) => {
   const asked = []
@@ -429,24 +542,25 @@ hosted("a board is told as it is shown, and as it was", async ({ replicaOf, clie
 }, { text: program("tanks") })
 
 hosted("a connection that is lost is made again, and the log goes on", async ({ host, replicaOf, client }) => {
-  const replica = await replicaOf({ origin: 1 })
+  const [replica, clock] = [await replicaOf({ origin: 1 }), client()]
+  await clock.ready
   await replica.act("ann.steer", 1, { time: 7 }).answered
-  await until(() => replica.records === 1)
+  await tickTo(clock, 12, 12)
+  await until(() => replica.records === 2)
   await host.stop()
   const late = replica.act("ann.steer", -1, { time: 9 })
-  assert.equal(replica.vars["ann.goes"], -1n)
+  assert.deepEqual([replica.vars["ann.goes"], replica.newest.time], [-1n, 12])
   await host.start()
-  // The host began anew with no record: the announcer says again what it had sent, and the replica begins from the new log.
+  // The host began anew with no record: the announcer says again what it had sent, nobody says the tick, and the replica begins from the new log.
   assert.ok(await late.answered)
   const fresh = client()
-  await until(() => replica.records === 2 && replica.vars["ann.goes"] === -1n)
-  assert.deepEqual(replica.confirmed, await hostVars(fresh, 2))
+  await until(() => replica.records === 2 && replica.newest.time === 9)
+  assert.deepEqual([replica.confirmed, replica.vars["ann.goes"]], [await hostVars(fresh, 2), -1n])
 })
 
-hosted("where memory ends it follows no more, and says so", async ({ engine, client, host }) => {
+/** An engine that has no memory once `state.isFull`. */
+function filling(engine, state) {
   const real = engine.another()
-  let isFull = false
-  // An engine that has no memory from some moment on.
   const full = {
     another: () => full,
     copy() {},
@@ -454,24 +568,47 @@ hosted("where memory ends it follows no more, and says so", async ({ engine, cli
     open(text) {
       const tab = real.open(text)
       const answer = lines => {
-        if (isFull) throw new NoMemory()
+        if (state.isFull) throw new NoMemory()
         return tab.answer(lines)
       }
       const opened = { answer, within: () => opened, vars: () => tab.vars(), horizon: () => tab.horizon(), released: () => [], drop() {} }
       return opened
     },
   }
-  const replica = new Replica(client(), { engine: full, program: PONG })
+  return full
+}
+
+hosted("where memory ends it follows no more, and says so", async ({ engine, client }) => {
+  const state = { isFull: false }
+  const replica = new Replica(client(), { engine: filling(engine, state), program: PONG })
   await replica.ready
   const told = []
   replica.onerror = error => told.push(error.name)
-  isFull = true
+  state.isFull = true
   const clock = client()
   await clock.ready
   await tickTo(clock, 1, 3)
   await until(() => told.length)
   await tickTo(clock, 4, 5)
   assert.deepEqual([told, replica.error instanceof NoMemory], [["NoMemory"], true])
+})
+
+hosted("where memory ends at a tick or at an own event, that is told too, and no further tick is executed", async ({ engine, client }) => {
+  for (const does of [replica => replica.frame(150), replica => assert.throws(() => replica.act("ann.steer", 1), NoMemory)]) {
+    const [state, told] = [{ isFull: false }, []]
+    const options = { engine: filling(engine, state), program: PONG, origin: 1, clock: { input: "clock.tick", hertz: 100 }, now: () => 100 }
+    const replica = await new Replica(client(), options).ready
+    replica.onerror = error => told.push(error.name)
+    const clock = client()
+    await clock.ready
+    await tickTo(clock, 1, 3)
+    await until(() => replica.records === 3)
+    const before = replica.vars
+    state.isFull = true
+    does(replica)
+    state.isFull = false
+    assert.deepEqual([told, replica.error instanceof NoMemory, replica.frame(200), replica.vars], [["NoMemory"], true, 0, before])
+  }
 })
 
 hosted("who is closed before the log has come is told so", async ({ client, replicaOf }) => {
@@ -498,6 +635,32 @@ hosted("who is closed tells what it had, also where an event was under way", asy
   await closed
   assert.equal(await act.answered, null)
   assert.deepEqual([replica.confirmed, replica.vars, replica.records, replica.frame()], [before, before, 3, 0])
+})
+
+hosted("who looks on sends no record, and cannot", async ({ host, client, engine }) => {
+  const [sent, clock] = [[], client()]
+  class Noting extends WebSocket {
+    send(text) {
+      sent.push(...`${text}`.split("\n"))
+      super.send(text)
+    }
+  }
+  const looking = new Client(host.url, { WebSocket: Noting })
+  try {
+    const replica = await new Replica(looking, { engine, program: PONG, clock: { input: "clock.tick", hertz: 100 } }).ready
+    await clock.ready
+    await tickTo(clock, 1, 5)
+    await until(() => replica.records === 5)
+    replica.frame()
+    replica.at(3)
+    await replica.ping()
+    assert.throws(() => replica.act("ann.steer", 1, { time: 9 }), TypeError)
+    await assert.rejects(replica.announce(), error => error instanceof TypeError && /^who acts or announces/.test(error.message))
+    assert.ok(sent.includes("horizon"))
+    assert.deepEqual([sent.filter(it => /^(event|withdraw|announce|collect)/.test(it)), (await clock.horizon()).log], [[], 5])
+  } finally {
+    looking.close()
+  }
 })
 
 hosted("a program that is not the host's is refused, and one that is only laid out in another way is not", async ({ client, engine }) => {

@@ -151,6 +151,8 @@ function listen(play) {
   addEventListener("keyup", event => {
     if (keys[event.key] === play.goes) play.steer(0)
   })
+  // Who has let go of a slider goes on by the keys.
+  addEventListener("pointerup", event => event.target instanceof HTMLInputElement && event.target.blur())
   for (const [id, way] of Object.entries({ up: -1, down: 1 })) {
     at(id).addEventListener("pointerdown", () => play.steer(way))
     for (const over of ["pointerup", "pointerleave", "pointercancel"]) at(id).addEventListener(over, () => play.steer(0))

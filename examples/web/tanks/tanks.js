@@ -7,20 +7,21 @@ const [WIDTH, HEIGHT, CELL, ALL] = [40, 24, 24, [1, 2, 3, 4]]
 const named = it => ["", "Coral", "Teal", "Amber", "Violet"][Number(it)]
 const COLOURS = ["#1b202a", "#ff6f61", "#2ec4b6", "#ffc145", "#9b86ff"]
 const WAYS = ["", "ArrowRight", "ArrowDown", "ArrowLeft", "ArrowUp"]
-// So often, in milliseconds, the page says that it is there. Where it could not for so long it sends nothing more: the seat may be another's.
-const [KEEP_EVERY, SILENT] = [700, 3_000]
+// So often, in milliseconds, the page says that it is there. Where it could not for so long it leaves: the seat may be another's.
+const [KEEP_EVERY, SILENT] = [700, 12_000]
 const at = id => document.getElementById(id)
 onerror = message => (at("state").textContent = message)
 const put = (parent, tag, lines) => at(parent).replaceChildren(...lines.map(it => Object.assign(document.createElement(tag), it)))
 const say = async (path, key = "") => (await fetch(path, { method: "POST", body: key })).json()
 const game = await (await fetch("game")).json()
+const [client, seen] = [new Client(`ws://${game.link}/ws`), { final: [], kept: performance.now(), timer: 0 }]
 const { seat, key } = location.search.includes("watch") ? { seat: null, key: "" } : await say("seat")
+if (seat) seen.timer = setInterval(() => keep().catch(() => {}), KEEP_EVERY)
 const name = (of, what) => `tank[${of - 1}].${what}`
 const smooth = Object.fromEntries(ALL.flatMap(of => ["x", "y", "shell_x", "shell_y"].map(it => [name(of, it), { jump: 2 }])))
 const [engine, program] = [await Engine.load(await (await fetch("engine.wasm")).arrayBuffer()), await (await fetch("tanks.json")).text()]
 const clock = { input: "main.tick", hertz: 1_000 / game.tick, last: game.ticks }
-const replica = new Replica(new Client(`ws://${game.link}/ws`), { engine, program, origin: seat, clock, smooth })
-const seen = { final: [], kept: performance.now() }
+const replica = new Replica(client, { engine, program, origin: seat, clock, smooth })
 
 const value = (of, what) => Number(replica.vars[name(of, what)])
 const act = (what, number, when) => seat && replica.tick.time < game.ticks && replica.act(name(seat, what), number, when)
@@ -69,11 +70,11 @@ function tell() {
 }
 
 async function keep() {
-  const asked = performance.now()
-  if (asked - seen.kept > SILENT) replica.client.close()
-  if ((await say("keep", key)).seat !== seat) throw new Error("the seat was given away: load this page again")
+  const [asked, { time = 0 }] = [performance.now(), globalThis.replica?.tick ?? {}]
+  const isHere = asked - seen.kept < SILENT && (await say("keep", key)).seat === seat
+  if (!isHere) return (at("who").textContent = "This page could not say that it is there: load it again to play on."), client.close(), clearInterval(seen.timer)
   seen.kept = asked
-  await replica.announce({ time: replica.tick.time === game.ticks ? game.ticks + 1 : replica.tick.time })
+  if (time) await globalThis.replica.announce({ time: time === game.ticks ? time + 1 : time })
 }
 
 at("who").textContent = seat ? `Tanks: you are ${named(seat)}` : "Tanks: you look on"
@@ -84,10 +85,9 @@ if (location.search.includes("stats")) overlay(replica)
 requestAnimationFrame(draw)
 setInterval(tell, 200)
 if (seat) {
-  setInterval(() => keep().catch(error => (at("who").textContent = error.message)), KEEP_EVERY)
   act("join", 1, { time: replica.tick.time + 3 })
   onkeydown = event => [" ", ...WAYS].includes(event.key) && (event.preventDefault(), press(event.key))
   onkeyup = event => release(event.key)
   for (const it of document.querySelectorAll("button")) Object.assign(it, { onpointerdown: () => press(it.name), onpointerup: () => release(it.name) })
-  onpagehide = () => navigator.sendBeacon("leave", key) && replica.client.close()
+  onpagehide = () => navigator.sendBeacon("leave", key) && client.close()
 }
