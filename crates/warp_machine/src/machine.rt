@@ -1,7 +1,9 @@
 //! The machine: what it holds, and how it begins.
 
-ghost use Rattle.std.specs.Prelude.{◌≡◌, IfOk, OnOk};
+ghost use Rattle.std.specs.Prelude.{◌≡◌, [], IfOk, None, OnOk};
+ghost use Rattle.warp_keep.specs.Keeping.{keeps};
 ghost use Rattle.warp_replica.specs.Answered.{facts_of};
+ghost use Rattle.warp_room.specs.Room.{AreKept};
 ghost use Rattle.warp_clients.specs.Tale.{IsEmpty};
 ghost use Rattle.warp_machine.specs.Moving.{Began, IsFollowing, MovedWith, clients_in};
 
@@ -14,13 +16,16 @@ use crate::operating::Level;
 use crate::peering::Followed;
 use crate::shares::Shares;
 use crate::start::{JournalSeen, Options, PeerAt, Start};
+use crate::ticking::HostClock;
 use std::alloc::Global;
 use std::collections::VecDeque;
 use warp_clients::Clients;
 use warp_hub::Rights;
+use warp_keep::Keeping;
 use warp_line::Timeline;
 use warp_pages::{Pages, Seen, Stopwatch};
 use warp_push::{Steps, Watchers};
+use warp_replica::Replica;
 use warp_room::Room;
 use warp_service::{Named, Note, Peer, Timers};
 use warp_tag::{Form, OutOfMemory, Tag};
@@ -85,6 +90,15 @@ const NO_JOURNAL: JournalSeen = JournalSeen {
     undescribed: 0,
 };
 
+/// Why there is no host.
+#[derive(Clone, Copy, Debug, PartialEq, Eq)]
+pub enum NoMachine {
+    /// There was no memory.
+    NoMemory,
+    /// This origin can't be kept: an announcement that speaks of it is broken, or a name of it has two payloads.
+    NotKept(u32),
+}
+
 /// A host.
 #[derive(Drop)]
 pub struct Machine<T: Timeline> {
@@ -108,6 +122,8 @@ pub struct Machine<T: Timeline> {
     pub(crate) counted: Counted,
     pub(crate) journal: JournalSeen,
     pub(crate) options: Options,
+    /// The clock of what it keeps.
+    pub(crate) clock: Option<HostClock>,
     pub(crate) most_records: u32,
     /// The answer to `program`.
     program: Vec<u8>,
@@ -138,20 +154,18 @@ pub struct Machine<T: Timeline> {
 }
 
 impl<T: Timeline> Machine<T> {
-    /// A host that begins now: nothing of its log may be told yet (`told_up_to`).
-    pub fn new(alloc: Global, start: Start<T>, now: u64) -> Result<Machine<T>, OutOfMemory>
-        ensures { IfOk result (λ machine. Began (facts_of T.settled T.refused T.floor T.SLACK) (clients_in machine)) }
+    /// A host that begins now: nothing of its log may be told yet (`told_up_to`). It keeps what it is asked to.
+    pub fn new(alloc: Global, start: Start<T>, now: u64) -> Result<Machine<T>, NoMachine>
+        ensures began { IfOk result (λ machine. Began (facts_of T.settled T.refused T.floor T.SLACK) (clients_in machine)) }
+        ensures keeps { IfOk result (λ machine. (clients_in machine).room.keeping ≡ start.keeping) }
     {
         let Ok(program) = Vec::from_slice(alloc, &start.facts.program) else {
-            return Err(OutOfMemory);
+            return Err(NoMachine::NoMemory);
         };
-        let Ok(begun) = begin(alloc, start, program, now) else {
-            return Err(OutOfMemory);
-        };
-        let Begun { mut machine, peers } = begun;
-        match machine.follow_all(peers) {
+        let Begun { mut machine, peers } = begin(alloc, start, program, now)?;
+        match machine.follow_and_tell(peers) {
             Ok(()) => Ok(machine),
-            Err(error) => Err(error),
+            Err(_) => Err(NoMachine::NoMemory),
         }
     }
 
@@ -163,6 +177,7 @@ impl<T: Timeline> Machine<T> {
         pages: Pages,
         program: Vec<u8>,
         options: Options,
+        clock: Option<HostClock>,
         now: u64,
     ) -> Machine<T>
         ensures { result.clients ≡ clients }
@@ -192,6 +207,7 @@ impl<T: Timeline> Machine<T> {
             counted: NOTHING_COUNTED,
             journal: NO_JOURNAL,
             options,
+            clock,
             most_records,
             program,
             level: Level::Info,
@@ -218,6 +234,16 @@ impl<T: Timeline> Machine<T> {
             self.tell(Note::LogFull);
         }
         self.note_ready();
+    }
+
+    /// Follows these peers, and tells clients of the clock before any comes.
+    fn follow_and_tell(&mut self, peers: Vec<PeerAt>) -> Result<(), OutOfMemory>
+        ensures { OnOk result (MovedWith (facts_of T.settled T.refused T.floor T.SLACK) IsFollowing
+            self.old.clients self.new.clients) }
+    {
+        self.follow_all(peers)?;
+        self.tell_clock();
+        Ok(())
     }
 
     /// Follows these peers.
@@ -253,6 +279,15 @@ impl<T: Timeline> Machine<T> {
         }
         self.peers.push(Followed::new(peer, who))?;
         Ok(())
+    }
+
+    /// What is known of any host: what it keeps could be kept when its log had some first records, and the log goes on from
+    /// those. It does nothing.
+    pub fn valid(&self)
+        ensures { AreKept (keeps (clients_in self.entry.now).room.keeping) (clients_in self.entry.now).room.replica.program
+            (clients_in self.entry.now).room.replica.records }
+    {
+        self.clients.room().valid();
     }
 
     /// An operator is to be told this.
@@ -299,8 +334,9 @@ fn begin<T: Timeline>(
     start: Start<T>,
     program: Vec<u8>,
     now: u64,
-) -> Result<Begun<T>, OutOfMemory>
-    ensures { IfOk result (λ begun. IsEmpty begun.machine.clients) }
+) -> Result<Begun<T>, NoMachine>
+    ensures empty { IfOk result (λ begun. IsEmpty begun.machine.clients) }
+    ensures keeps { IfOk result (λ begun. begun.machine.clients.room.keeping ≡ start.keeping) }
 {
     let Start {
         keys,
@@ -310,6 +346,8 @@ fn begin<T: Timeline>(
         texts,
         peers,
         options,
+        keeping,
+        clock,
     } = start;
     // Whatever the facts say, lines are read in the form of the program that runs.
     facts.form = replica.program().form();
@@ -322,28 +360,80 @@ fn begin<T: Timeline>(
     );
     // What is made is handed on with what could not be, so that only one function lets go of all.
     let pages = Pages::new(alloc, texts, seen);
-    let room = Room::new(alloc, replica, MOST_LINES, MOST_ANSWERS);
+    let clock = match clock {
+        Some(clock) => Some(HostClock::new(clock, &keeping, &replica, now)),
+        None => None,
+    };
+    let KeptRoom { room, refused } = kept_room(alloc, replica, keeping);
     let clients = Clients::new(alloc, keys, room, facts);
-    with_pages(alloc, clients, labels, pages, program, options, peers, now)
+    let made = Made {
+        pages,
+        refused,
+        clock,
+    };
+    with_pages(alloc, clients, labels, made, program, options, peers, now)
 }
 
-/// A host over these clients, where its pages could be made.
+/// A room, and the first origin that it may not keep, if there is one.
+#[derive(Drop)]
+struct KeptRoom<T: Timeline> {
+    room: Room<T>,
+    refused: Option<u32>,
+}
+
+/// A new room over this replica, that keeps these origins if it may.
+fn kept_room<T: Timeline>(alloc: Global, replica: Replica<T>, keeping: Keeping) -> KeptRoom<T>
+    ensures seats { result.room.queues.seats ≡ [] }
+    ensures made { result.room.made ≡ [] }
+    ensures keeps { result.refused ≡ None → result.room.keeping ≡ keeping }
+{
+    let mut room = Room::new(alloc, replica, MOST_LINES, MOST_ANSWERS);
+    match room.keep(keeping) {
+        Ok(()) => KeptRoom {
+            room,
+            refused: None,
+        },
+        Err(origin) => KeptRoom {
+            room,
+            refused: Some(origin),
+        },
+    }
+}
+
+/// What could be made, or could not.
+#[derive(Drop)]
+struct Made {
+    pages: Result<Pages, OutOfMemory>,
+    /// The first origin that may not be kept, if there is one.
+    refused: Option<u32>,
+    clock: Option<HostClock>,
+}
+
+/// A host over these clients, where its pages could be made, and what it is to keep may be kept.
 fn with_pages<T: Timeline>(
     alloc: Global,
     clients: Clients<T>,
     labels: Labels,
-    pages: Result<Pages, OutOfMemory>,
+    made: Made,
     program: Vec<u8>,
     options: Options,
     peers: Vec<PeerAt>,
     now: u64,
-) -> Result<Begun<T>, OutOfMemory>
-    ensures { IfOk result (λ begun. begun.machine.clients ≡ clients) }
+) -> Result<Begun<T>, NoMachine>
+    ensures { IfOk result (λ begun. (begun.machine.clients ≡ clients) × (made.refused ≡ None)) }
 {
+    let Made {
+        pages,
+        refused,
+        clock,
+    } = made;
+    if let Some(origin) = refused {
+        return Err(NoMachine::NotKept(origin));
+    }
     let Ok(pages) = pages else {
-        return Err(OutOfMemory);
+        return Err(NoMachine::NoMemory);
     };
-    let mut machine = Machine::over(alloc, clients, labels, pages, program, options, now);
+    let mut machine = Machine::over(alloc, clients, labels, pages, program, options, clock, now);
     machine.note_start();
     Ok(Begun { machine, peers })
 }
