@@ -5,7 +5,7 @@ use http::HeaderValue;
 /// What the page may do in a browser: its own style and script alone, told by their SHA-256, and connect to its host.
 const POLICY: &str = "\
 default-src 'none'; \
-script-src 'sha256-0DLePC17CyjtzmxM6cpQ1uSvNfK6k0EWYvhpF3nTbFI='; \
+script-src 'sha256-OJxZgMITfVnGlyfIUlpcMkAMOshj6w1d9ofxSamjXZ8='; \
 style-src 'sha256-d/a0rCczhXpjFCZ7Ap5v6YD9VJ6wfFrH9/NsAtHdbTQ='; \
 connect-src 'self'; \
 img-src data:; \
@@ -134,6 +134,10 @@ it was, the replica goes on from there) or more (timers and actions may lie behi
 11:"there is no board: only a server has one",
 13:"this client may not send that",
 14:"the journal cannot be written",
+15:"only the host announces for an origin that it keeps, and only for such a one it takes what is sent",
+16:"late: the host has announced that nothing more comes before",
+17:"another event has this name",
+18:"crowded: this tick has as many inputs of the origin as the host takes",
 }
 const FIRST_PAUSE=100
 const LONGEST_PAUSE=5_000
@@ -211,7 +215,8 @@ const isSided=numbers.length>0&&numbers.reduce((one,other)=>one * other)===count
 return isSided?{name,first,count,sides:numbers}:{name:label,first,count,sides:[count]}
 }
 class Names{
-constructor({vars=[],inputs=[],outputs=[],arrays=[],hidden=[]}={}){
+constructor({origins=0,vars=[],inputs=[],outputs=[],arrays=[],hidden=[]}={}){
+this.origins=origins
 this.vars=vars
 this.hidden=hidden
 this.told=vars.filter((_,at)=>!hidden.includes(at))
@@ -221,6 +226,9 @@ this.outputs=outputs
 }
 array(name){
 return this.arrays[number("array",name,this.arrays.map(it=>it.name))]
+}
+input(name){
+return number("input",name,this.inputs.map(it=>it.name))
 }
 owner(input){
 const found=this.inputs[input]
@@ -241,6 +249,7 @@ if (value < least || value > most) throw new RangeError(`${name} is ${value}: it
 return value
 }
 const NO_RANGE="which cells to watch is missing: say it as { array: \"r.board\" }, or as { from: 0, count: 9 }"
+const valueIn=({value})=>whole("value",value,2n ** 63n - 1n,-(2n ** 63n))
 const within=(most,least=0)=>word=>{
 const number = /^(0|[1-9]\d{0,15})$/.test(word) ? Number(word) : NaN
 if(number>=least&&number<=most)return number
@@ -262,7 +271,7 @@ const PARTS={
 log:within(1e7),place:within(1e7,1),events:within(1e7),withdrawn:within(1e7),rows:within(2 ** 20),watched:within(7),
 origin:within(63),input:within(255),output:within(255),time:within(15_625_000),micro:within(255),index:within(2 ** 32 - 1),
 count:within(Number.MAX_SAFE_INTEGER),number:within(99,1),value:integer,frozen:flag,broken:flag,
-version: within(99, 1), fingerprint: matching(/^[0-9a-f]{64}$/), digits: matching(/^[0-9a-f]{32}$/),
+hertz: within(1_000, 1), version: within(99, 1), fingerprint: matching(/^[0-9a-f]{64}$/), digits: matching(/^[0-9a-f]{32}$/),
 }
 function fields(form){
 const parts = (form.match(/\S+/g) ?? []).map(it => it.split(":"))
@@ -292,9 +301,10 @@ return{kind,...RECORDS[kind](words)}
 }
 const jsonOf = text => JSON.parse(text.replace(/"(?:[^"\\]|\\.)*"|-?\d[\d.eE+-]*/g, it => (it[0] === '"' ? it : `"${it}"`)))
 function namesOf(text){
-const{vars,inputs,outputs,arrays=[],hidden=[]}=jsonOf(text)
+const{origins="0",vars,inputs,outputs,arrays=[],hidden=[]}=jsonOf(text)
 const [numberOf,countOf]=[within(MOST_VALUES),within(2 ** 16,1)]
 return new Names({
+origins:within(64)(origins),
 arrays:listOf(arrays,MOST_ARRAYS,([name,first,count])=>[textOf(name),numberOf(first),countOf(count)]),
 hidden:listOf(hidden,MOST_VARS,numberOf),
 vars:listOf(vars,MOST_VARS,textOf),
@@ -334,10 +344,13 @@ return{...counts,last:{time,micro}}
 },
 reached:fields("log origin time micro"),
 digest:fields("log digits"),
+keeps:words=>(words.length===1&&words[0]==="all"?null:listOf(words,64,PARTS.origin)),
+clock:fields("tick:count milliseconds:count hertz"),
+sent:fields("place time micro"),
 }
 const ANSWERS={
 event:"taken known",withdraw:"taken known",announce:"taken known",collect:"collected",watch:"watching",unwatch:"watching",
-token:"may",row:"row none",output:"output none",release:"release none",log:"log none",
+token:"may",send:"sent",row:"row none",output:"output none",release:"release none",log:"log none",
 }
 function replyOf(text,line){
 const [word,...words]=text.split(" ")
@@ -449,6 +462,8 @@ class Asked{
 constructor(line,watch=null){
 this.line=line
 this.watch=watch
+this.isSent=false
+this.isOnce=line.startsWith("send ")
 this.answer=new Promise((resolve,reject)=>Object.assign(this,{resolve,reject}))
 this.answer.catch(()=>{})
 }
@@ -462,7 +477,8 @@ class Client{
 #greetedAt=null
 #hasBrought=false
 #owed=0
-#clock
+#counting
+#hostClock=null
 #isConnected=false
 #late=null
 #timer
@@ -495,7 +511,7 @@ this.ready.catch(()=>{})
 this.#connect()
 if(this.timeout===Infinity)return
 const part = Math.min(this.timeout / 8, PART)
-this.#clock=setInterval(()=>this.#wait(part),part)
+this.#counting=setInterval(()=>this.#wait(part),part)
 }
 #connect(){
 const socket=new this.#WebSocket(this.url)
@@ -524,7 +540,7 @@ if(this.#socket===socket&&this.state!=="closed")this.#greeted(...answers.slice(-
 #greeted(names,program){
 const{fingerprint}=program
 this.#greetedAt=performance.now()
-if(this.#late?.isOfOpening)this.#late=null
+if(this.#late?.isOfOpening||this.#late?.isOnce)this.#late=null
 this.#fingerprint??=fingerprint
 if(this.#fingerprint!==fingerprint){
 return this.#finish(new Ended(`the host has another program now, ${fingerprint}: it had ${this.#fingerprint}`))
@@ -544,7 +560,9 @@ if(this.connections>1)for(const callback of this.#reopened)callBack(callback)
 }
 #send(asked){
 let text=""
-for(const{line}of asked){
+for(const it of asked){
+const{line}=it
+it.isSent=true
 if(text.length + line.length>=MOST_MESSAGE){
 this.#socket.send(text)
 text=""
@@ -559,6 +577,7 @@ if(this.state==="closed")return
 this.#socket=null
 this.#isConnected=false
 if(!this.#reconnect)return this.#finish(new Ended("the connection was lost"))
+this.#leaveOut()
 const hasLasted=this.#greetedAt!==null&&performance.now()- this.#greetedAt>=LASTED
 if(hasLasted||this.#hasBrought)this.#pause=FIRST_PAUSE
 this.#greetedAt=null
@@ -566,6 +585,12 @@ this.#hasBrought=false
 this.#turn("connecting")
 this.#timer=setTimeout(()=>this.#connect(),this.#pause)
 this.#pause=Math.min(2 * this.#pause,LONGEST_PAUSE)
+}
+#leaveOut(){
+const asked=this.#asked.take()
+const isLost=it=>it.isOnce&&it.isSent
+this.#asked=new Queue(asked.filter(it=>!isLost(it)))
+for (const it of asked.filter(isLost)) it.reject(new Ended(`the connection was lost, and nobody knows whether this was taken: ${it.line}`))
 }
 #wait(part){
 const isOwed=this.#socket&&(!this.#isConnected||this.#asked.length)
@@ -593,7 +618,7 @@ this.#finish(new Ended("the client was closed"))
 }
 #finish(error){
 clearTimeout(this.#timer)
-clearInterval(this.#clock)
+clearInterval(this.#counting)
 this.#isOpened=false
 this.error??=error
 this.#turn("closed")
@@ -657,6 +682,11 @@ return asked.answer
 }
 ask(line){
 return this.#put(String(line))
+}
+async send(input,value,time=null){
+const words=[valueIn({value}),...(time===null?[]:[whole("time",time,15_625_000)])].join(" ")
+await this.ready
+return this.ask(`send ${this.names.input(input)} ${words}`)
 }
 outputs(){
 return this.ask("outputs")
@@ -907,9 +937,6 @@ const first=this.released.added
 const length=Math.max(0,Math.min(count - first,OPEN_SHOWN))
 const rows=await Promise.all(Array.from({length},(_,at)=>client.output(first + at)))
 Object.assign(this,{outputs:count,lost:lost.count,asked:rows.filter(Boolean),askedFrom:first})
-}
-get open(){
-return this.asked.slice(this.released.added - this.askedFrom)
 }
 reachOf(origin){
 const{announced=null,tag=null,isLost=false}=(origin==="*"?this.all:this.origins.get(origin))??{}
