@@ -35,7 +35,7 @@ NO_NAMES = {
     "vars": ([1], ["r.total"] * 1_025), "outputs": ([[]], ["r.y"] * 257),
     "inputs": ([[0]], [["0", "r.a"]], [[64, "r.a"]], [[-1, "r.a"]], [[True, "r.a"]], [[0, "r.a"]] * 257),
     "arrays": ([["r.a", 0]], [["r.a", -1, 1]], [["r.a", 0, "1"]], [[1, 0, 1]], [["r.a", 0, 66_561]], [["r.a", 0, 1]] * 257),
-    "hidden": (["r.a"], [-1], [True]),
+    "hidden": (["r.a"], [-1], [True]), "origins": (65, -1, True),
 }
 NO_ORIGINS = (b"Infinity", b"-Infinity", b"NaN", b"1e999", b"0.0", b"-0", b"9" * 30_000)
 # What is no step, by its key.

@@ -4,6 +4,7 @@ frame by frame, that the player's own moves show at once, however late the host 
 import random
 import re
 import subprocess
+import sys
 import threading
 import time
 import urllib.request
@@ -14,6 +15,9 @@ from browsing import Keys
 from loopback import holds, same
 
 ROOT = Path(__file__).resolve().parent.parent
+sys.path.insert(0, str(ROOT / "clients" / "python"))
+from warpd import Event, HostClient  # noqa: E402
+
 OVER = "The game is over, and all of it is final."
 # A game lasts 90 seconds; where each frame takes long, fewer keys are pressed in this time.
 MOST_MILLISECONDS = 60_000
@@ -80,11 +84,11 @@ requestAnimationFrame(function frame(now) {
 })"""
 
 
-def moments_of(ann, ben, ticks):
+def moments_of(ann, ben, first, ticks):
     """Pong where each player goes as a rule says, which looks at the tick alone: worked out from the rules of the game, not by warpd. Behind
-    each tick both rows, where the ball is, and who has a point, if somebody does."""
+    each tick from the first on both rows, where the ball is, and who has a point, if somebody does."""
     rows, (x, y, dx, dy) = [3, 3], (12, 3, 1, 1)
-    for tick in range(1, ticks + 1):
+    for tick in range(first, ticks + 1):
         rows = [min(ROWS, max(0, row + rule(tick))) for row, rule in zip(rows, (ann, ben))]
         x, y = x + dx, y + dy
         dy = -dy if y in (0, 6) else dy
@@ -155,18 +159,29 @@ class Pong(Started):
             thread.join()
 
 
+def first_tick(game):
+    """The first tick that the host sent."""
+    host, port = game.host.strip("/").rpartition("/")[2].split(":")
+    with HostClient(host, int(port)) as client:
+        return next(it.tag.time for it in client.records() if isinstance(it, Event) and it.origin == 0)
+
+
 def known_score(browser, program, engine):
-    """Two rules play to a known score over a host that hears of each tab late: both tabs go back, and end with the same points."""
-    ticks = 160
-    moments = {it[0]: it[1:] for it in moments_of(lambda tick: 1 if tick % 10 < 5 else -1, lambda tick: -1 if tick % 10 < 5 else 1, ticks)}
-    points = [(point, tick) for tick, (_, _, point) in moments.items() if point]
-    holds(len({name for name, _ in points}) == 2, "the rules do not try both sides")
-    with Pong(program, engine, "--delay", 300, "--tick", 30, "--ticks", ticks) as game, browser.tab() as tabs:
+    """Two rules play to a known score over a host that hears of each tab late, and takes all that comes within ten seconds: both tabs go back,
+    and end with the same points. Nobody announces but the host."""
+    ticks = 400
+    words = ("--delay", 300, "--tick", 30, "--ticks", ticks, "--grace", 10_000)
+    with Pong(program, engine, *words) as game, browser.tab() as tabs:
         for tab, address in zip(tabs, (f"{game.ann}&rule=sweep", f"{game.ben}&rule=shuttle")):
             browser.driver.switch_to.window(tab)
             browser.open(address)
             browser.wait_text("told", "300")
             browser.run(NOTE)
+        browser.wait_text("state", OVER, 90)
+        first = first_tick(game)
+        moments = {it[0]: it[1:] for it in moments_of(lambda tick: 1 if tick % 10 < 5 else -1, lambda tick: -1 if tick % 10 < 5 else 1, first, ticks)}
+        points = [(point, tick) for tick, (_, _, point) in moments.items() if point]
+        holds(points, "the rules make no point")
         for tab in tabs:
             browser.driver.switch_to.window(tab)
             browser.wait_text("state", OVER, 60)
@@ -175,7 +190,7 @@ def known_score(browser, program, engine):
             said = browser.run("return [...document.querySelectorAll('#points li')].map(it => it.textContent)")
             same(said, [f"{name} at {tick}, final" for name, tick in points], "the points")
             holds(int(browser.text("back").split()[0]) > 5, f"it went back {browser.text('back')}")
-            for tick in (1, ticks // 3, ticks - 1, 17):
+            for tick in (first, first + 16, (first + ticks) // 2, ticks - 1):
                 back_in_time(browser, tick, *moments[tick][:2])
             # The first page was there before the game began.
             holds(tab != tabs[0] or browser.run("return window.wasOpen"), "no point was told that may change")

@@ -5,8 +5,8 @@ import type { Glide, Smooth } from "./smooth.js"
 /** An input that another origin ticks. */
 export interface ClockOptions {
   input: string | number
-  /** What its events have; 1 where it is left out. */
-  value?: GivenValue
+  /** What its events have; 1 where it is left out, and with "tick" each has its tick, as those that a host sends by itself. */
+  value?: GivenValue | "tick"
   /** Ticks a second; 60 where it is left out. */
   hertz?: number
   /** How many ticks past the last that came are executed at most; those of a second where it is left out. */
@@ -103,10 +103,13 @@ export class Replica {
   onerror: ((error: Error) => void) | null
   /**
    * One's own event, here at once and to the host: at the next tick of the clock, or at `time`. Where numbers glide, that is the tick
-   * to which they go.
+   * to which they go. A host that keeps the origin may give it another tag: then it shows there.
    */
   act(input: string | number, value: GivenValue, when?: { time?: number }): Acted
-  /** Announces that no event of one's own comes any more before this tag; where none is given, before the tick at which one acts. */
+  /**
+   * Announces that no event of one's own comes any more before this tag; where none is given, before the tick at which one acts. A
+   * TypeError where the host keeps the origin, and so announces by itself.
+   */
   announce(tag?: Partial<Tag>): Promise<Taken>
   /** Executes the ticks that are due, and gives how many: to be called before each picture, with its time where that is known. */
   frame(now?: number): number

@@ -16,18 +16,20 @@
 // the second has beside these one's own events that the host has not answered yet, and the ticks of the clock that are due and
 // have not come yet: from it comes what is shown. Where the host refuses one of these, or the clock passes over one, the second
 // engine is made a copy of the first anew.
+//
+// Where the host keeps one's own origin (`warpd host --clock`), events go by `send`: each shows here at once, at the tick that is shown,
+// and where the host gives it another tag it goes there. The host announces then, and nobody else.
 
 import { NoMemory } from "./engine.js"
 import { Executed, placeOf, tagOf } from "./executed.js"
 import { Past } from "./past.js"
 import { Smooth } from "./smooth.js"
-import { Announcer, Ended, Refused, replyOf } from "./warpd.js"
+import { Announcer, Ended, GoingOver, Refused, replyOf } from "./warpd.js"
 
-// The quickest of so many late ticks tells when the host's clock began. What is reckoned with goes over to that by so much of the time
-// that passes; at once where it is farther away than so many milliseconds, as behind a machine's sleep.
+// The quickest of so many late ticks tells when the host's clock began.
 const SAMPLES = 300
-const GOING_OVER = 0.1
-const FAR = 1_000
+// A host that does not know a word refuses it so.
+const SYNTAX = 1
 // The log that the host has at the beginning is looked for so often, in milliseconds.
 const LOOK_EVERY = 5
 // Lines are handed to the engine so many bytes at a time, or a line more.
@@ -63,6 +65,8 @@ class Clock {
   #origin
   #input
   #value
+  #began = new GoingOver()
+  #isReckoned = false
 
   constructor({ input, value = 1, hertz = 60, ahead = hertz, lead = 0, last = Infinity }, names, now, isSmooth) {
     this.#input = names.input(input)
@@ -78,16 +82,23 @@ class Clock {
     /** The last tick that was executed here, and the last that came. */
     this.ticked = 0
     this.confirmed = 0
-    /** When the host's tick 0 was, in this process's time: by the quickest of late ticks, and as is reckoned with, since when. */
+    /** When the host's tick 0 was, in this process's time, by the quickest of late ticks. */
     this.quickest = Infinity
-    this.offset = Infinity
-    this.reckoned = -Infinity
     /** The ticks that were executed and have not come, in rising order. */
     this.expected = []
   }
 
+  /** When the host's tick 0 was, as is reckoned with. */
+  get offset() {
+    return this.#began.value
+  }
+
+  #valueAt(time) {
+    return this.#value === "tick" ? time : this.#value
+  }
+
   line(time) {
-    return `event ${this.#origin} ${time} 0 ${this.#input} ${this.#value}`
+    return `event ${this.#origin} ${time} 0 ${this.#input} ${this.#valueAt(time)}`
   }
 
   /** Takes a record of the log; the first tick that was executed here and is passed over by it, or is another; else Infinity. */
@@ -97,11 +108,11 @@ class Clock {
     if (this.#samples.length > SAMPLES) this.#samples.shift()
     this.quickest = Math.min(...this.#samples)
     // Before the first picture nothing is reckoned with.
-    if (this.reckoned === -Infinity) this.offset = this.quickest
+    if (!this.#isReckoned) this.#began = new GoingOver(this.quickest)
     this.confirmed = Math.max(this.confirmed, time)
     this.ticked = Math.max(this.ticked, time)
     const [first = Infinity] = this.expected
-    const isOther = first === time && (micro !== 0 || BigInt(value) !== BigInt(this.#value))
+    const isOther = first === time && (micro !== 0 || BigInt(value) !== BigInt(this.#valueAt(time)))
     if (first === time) this.expected.shift()
     if (first < time) this.expected = this.expected.filter(it => it > time)
     return first < time || isOther ? first : Infinity
@@ -110,15 +121,10 @@ class Clock {
   /** How many ticks are due that were not executed, at most `ahead` past the last that came. */
   due(now) {
     if (!Number.isFinite(this.quickest)) return 0
-    this.#goOver(now)
+    this.#isReckoned = true
+    this.#began.toward(this.quickest, now)
     const due = Math.floor(((now - this.offset) * this.hertz) / 1_000) + this.lead
     return Math.max(0, Math.min(due, this.confirmed + this.ahead, this.last) - this.ticked)
-  }
-
-  #goOver(now) {
-    const [by, most] = [this.quickest - this.offset, GOING_OVER * Math.max(0, now - this.reckoned)]
-    this.offset = Math.abs(by) > FAR ? this.quickest : this.offset + Math.min(most, Math.max(-most, by))
-    this.reckoned = now
   }
 
   /** When a tick is due. */
@@ -155,6 +161,8 @@ export class Replica {
   #arrived = []
   #watch = null
   #announcer = null
+  /** Whether the host keeps one's own origin, so that it gives each event its tag. */
+  #isKept = false
   #clockOptions
   #clock = null
   #isWaiting = false
@@ -201,7 +209,7 @@ export class Replica {
    * @param client a `Client` of a host of the program
    * @param options `engine`: an `Engine`, of whose module two more are made; `program`: the text of the program's file; `origin`:
    *   whose events are sent, where any are; `clock`: the input that another origin ticks, as `{ input, value, hertz, ahead,
-   *   lead, last }`, where there is one; `smooth`: the variables that are shown evenly, as `{ "ball.x": { over, jump } }`, where any
+   *   lead, last }`, where there is one, with the value "tick" where the host ticks; `smooth`: the variables that are shown evenly, as `{ "ball.x": { over, jump } }`, where any
    *   are
    */
   constructor(client, { engine, program, origin = null, clock = null, smooth = null, now = () => performance.now() }) {
@@ -227,7 +235,8 @@ export class Replica {
     this.#names = this.client.names
     for (const name of this.#smooth?.names ?? []) this.#names.var(name)
     this.#setClock()
-    if (this.origin !== null) this.#announcer = new Announcer(this.client, this.origin)
+    this.#isKept = this.origin !== null && (await this.#keeps())
+    if (this.origin !== null && !this.#isKept) this.#announcer = new Announcer(this.client, this.origin)
     // A connection that is lost meanwhile is made again, too.
     this.client.onReopened(() => this.#reopened().catch(error => error instanceof Ended || this.#fail(error)))
     this.#follow(1)
@@ -238,6 +247,16 @@ export class Replica {
     this.#isReady = true
     if (this.#announcer) await this.#announcer.began
     return this
+  }
+
+  /** Whether the host keeps one's own origin. */
+  async #keeps() {
+    try {
+      return (await this.client.keeps()).includes(this.origin)
+    } catch (error) {
+      if (error instanceof Refused && error.number === SYNTAX) return false
+      throw error
+    }
   }
 
   /** Waits until so many records came; where none comes for as long as the client waits for an answer, it is an `Ended`. */
@@ -442,10 +461,11 @@ export class Replica {
   /**
    * One's own event, here at once and to the host: at the next tick of the clock, or at `time`. Where numbers glide, that is the
    * tick to which they go. Where its tag has an event of one's own already, it takes the next free microstep. It gives its record;
-   * `answered` of it is resolved with what the host answered, or with null where that refused it.
+   * `answered` of it is resolved with what the host answered, or with null where that refused it. A host that keeps the origin may give
+   * it another tag: then it shows there.
    */
   act(input, value, { time } = {}) {
-    const sender = this.#sender
+    const sender = this.#isKept ? null : this.#sender
     const at = time ?? this.#clock?.acting
     if (at === undefined) throw new TypeError("there is no clock: say when, as { time }")
     const record = { kind: "event", origin: this.origin, ...this.#freeTag(at), input: this.#names.input(input), value: BigInt(value) }
@@ -464,7 +484,7 @@ export class Replica {
     const began = this.now()
     try {
       // It waits until the host's log brings it, which may be later.
-      const taken = await sender.event(record.input, record)
+      const taken = await (sender ? sender.event(record.input, record) : this.#sendKept(line, record))
       this.stats.answered = this.now() - began
       return taken
     } catch (error) {
@@ -478,8 +498,31 @@ export class Replica {
     }
   }
 
-  /** Announces that no event of one's own comes any more before this tag; where none is given, before the tick at which one acts. */
+  /** Has the host give an event its tag, and shows it there. */
+  async #sendKept(line, record) {
+    const { place, time, micro } = await this.client.send(record.input, record.value, record.time)
+    if (time !== record.time || micro !== record.micro) {
+      this.#tried(() => this.#move(line, record, { ...record, time, micro }, place))
+    }
+    return { place, isNew: true }
+  }
+
+  /** What one did at a tag was at another one, and stands at this place of the host's log, which may not have come yet. */
+  #move(line, record, moved, place) {
+    const newest = this.#newest
+    this.#own.delete(line)
+    this.#used.delete(placeOf(record))
+    this.#used.add(placeOf(moved))
+    if (place > this.#count + this.#arrived.length) this.#own.set(lineOf(moved), moved)
+    this.#rebuild(Math.min(placeOf(record), placeOf(moved)), newest)
+  }
+
+  /**
+   * Announces that no event of one's own comes any more before this tag; where none is given, before the tick at which one acts. A host
+   * that keeps the origin announces by itself.
+   */
   async announce({ time = this.#clock?.acting ?? 1, micro = 0 } = {}) {
+    if (this.#isKept) throw new TypeError(`the host keeps origin ${this.origin}, and announces for it`)
     return this.#sender.announce({ time, micro })
   }
 

@@ -35,6 +35,11 @@ export interface Taken {
   isNew: boolean
 }
 
+/** Where an input that was sent stands in the log, from 1, and the tag that the host gave it. */
+export interface Sent extends Tag {
+  place: number
+}
+
 export interface Row extends Tag {
   output: number
   value: Value
@@ -118,12 +123,15 @@ export interface ArrayNamed {
 /** What the numbers of a program stand for: a number is the place in its list. */
 export class Names {
   constructor(names?: {
+    origins?: number
     vars?: string[]
     inputs?: [number, string][]
     outputs?: string[]
     arrays?: [string, number, number][]
     hidden?: number[]
   })
+  /** How many origins the program has. */
+  readonly origins: number
   readonly vars: string[]
   readonly hidden: number[]
   readonly told: string[]
@@ -161,6 +169,25 @@ export interface ClientOptions {
   WebSocket?: unknown
 }
 
+/** A number that goes over to another one, by a part of the time that passes; at once where that is far. */
+export class GoingOver {
+  constructor(value?: number)
+  /** NaN before the first. */
+  readonly value: number
+  toward(wanted: number, now: number): number
+}
+
+/** What the clock of a host says, by the quickest of the last questions, and without jumps. */
+export class HostClock {
+  constructor(client: Client, now?: () => number)
+  /** Ticks a second; null before the first answer. */
+  readonly hertz: number | null
+  /** Resolved once the clock is known; rejected where the host has none. Who asks for it has the host asked from then on. */
+  readonly ready: Promise<HostClock>
+  /** Which tick it is now, with its fraction: 30.5 is in the middle of tick 30. NaN before the first answer. */
+  now(): number
+}
+
 /** Lines to one host, and their answers. A refusal is rejected as `Refused`. */
 export class Client {
   constructor(url: string, options?: ClientOptions)
@@ -170,6 +197,8 @@ export class Client {
   /** The variables by name, as a watch of "vars" keeps them. */
   readonly vars: Record<string, Value>
   readonly names: Names
+  /** What the host's clock says, once its own `ready` was asked for. */
+  readonly clock: HostClock
   readonly state: "connecting" | "open" | "closed"
   onstate: ((state: "connecting" | "open" | "closed") => void) | null
   /** Why it is closed: `Refused` where the host refuses the token, else `Ended`. */
@@ -180,6 +209,13 @@ export class Client {
   ask(line: string): Promise<unknown>
   many(lines: Iterable<string>): Promise<unknown[]>
   event(input: string | number, event: { time: number; value: GivenValue; micro?: number; origin?: number }): Promise<Taken>
+  /**
+   * Gives an input this value at a tick, or at the tick that it is; the host gives it its tag. It is not safe to repeat: where the
+   * connection is lost before the answer it is rejected with `Ended`, and may have been taken or not.
+   */
+  send(input: string | number, value: GivenValue, time?: number | null): Promise<Sent>
+  /** The origins that the host keeps, in rising order. */
+  keeps(): Promise<number[]>
   withdraw(origin: number, tag: { time: number; micro?: number }): Promise<Taken>
   /** With "*" for all origins together, in a program of version 4. */
   announce(origin: number | "*", word: { time: number; micro?: number; events: number; withdrawn?: number }): Promise<Taken>

@@ -10,7 +10,8 @@
 // Values of events, variables and outputs have 64 bits and are BigInt; all other numbers are numbers. Where a value is
 // given, a number will do. Lines are sent at once, and answered in their order. After a lost connection the client
 // connects again, sends again what was not answered (records are safe to repeat) and watches on from where it was; but
-// steps go on from the new connection, and what was executed meanwhile is not told.
+// steps go on from the new connection, and what was executed meanwhile is not told. What `send` said is not said again: it
+// would be a second input.
 
 const MEANINGS = {
   1: "the line is none, or out of range",
@@ -26,6 +27,10 @@ const MEANINGS = {
   11: "there is no board: only a server has one",
   13: "this client may not send that",
   14: "the journal cannot be written",
+  15: "only the host announces for an origin that it keeps, and only for such a one it takes what is sent",
+  16: "late: the host has announced that nothing more comes before",
+  17: "another event has this name",
+  18: "crowded: this tick has as many inputs of the origin as the host takes",
 }
 
 const FIRST_PAUSE = 100
@@ -84,6 +89,16 @@ class Queue {
 /** What a host says as an error shows it. */
 const shown = text => JSON.stringify(text.length > SHOWN ? `${text.slice(0, SHOWN)}..` : text)
 
+// How many exchanges tell what a host's clock says, and how many milliseconds lie between two once the first few are over. Where they
+// tell another time than is reckoned with, that goes over by so much of the time that passes; at once where it is farther away than so
+// many milliseconds. What exchanges may differ by, since a host tells whole milliseconds.
+const EXCHANGES = 10
+const FIRST_EXCHANGES = 4
+const EXCHANGE_EVERY = 1_000
+const GOING_OVER = 0.1
+const FAR = 1_000
+const ROUNDED = 2
+
 /** A line as an error shows it: a token is not told. */
 const told = line => line.replace(/^token .*/, "token ..")
 
@@ -121,6 +136,84 @@ function callBack(callback, value) {
   }
 }
 
+/** A number that goes over to another one, by a part of the time that passes; at once where that is far. */
+export class GoingOver {
+  #since = -Infinity
+
+  constructor(value = NaN) {
+    this.value = value
+  }
+
+  /** Goes on towards this up to the time that it is now. */
+  toward(wanted, now) {
+    const [by, most] = [wanted - this.value, GOING_OVER * Math.max(0, now - this.#since)]
+    this.value = Math.abs(by) <= FAR ? this.value + Math.min(most, Math.max(-most, by)) : wanted
+    this.#since = now
+    return this.value
+  }
+}
+
+/**
+ * What the clock of a host says, by questions: each answer comes of some moment between its question and now, so the quickest of the
+ * last tells most. Where two leave no moment for both, the clock stood or the host began anew, and the newer one counts.
+ */
+export class HostClock {
+  #client
+  #now
+  #exchanges = []
+  #offset = new GoingOver()
+  #asking = null
+
+  constructor(client, now = () => performance.now()) {
+    this.#client = client
+    this.#now = now
+    /** Ticks a second; null before the first answer. */
+    this.hertz = null
+  }
+
+  /** Resolved once the clock is known, with it; rejected where the host has none. Who asks for it has the host asked from then on. */
+  get ready() {
+    this.#asking ??= this.#begin()
+    return this.#asking
+  }
+
+  async #begin() {
+    await this.#client.ready
+    await this.#ask()
+    this.#client.onReopened(() => this.#ask().catch(() => {}))
+    this.#goOn()
+    return this
+  }
+
+  async #goOn() {
+    for (let count = 1; this.#client.state !== "closed"; count += 1) {
+      if (count >= FIRST_EXCHANGES) await new Promise(resolve => setTimeout(resolve, EXCHANGE_EVERY))
+      if (this.#client.state === "open") await this.#ask().catch(() => {})
+    }
+  }
+
+  async #ask() {
+    const asked = this.#now()
+    const { milliseconds, hertz } = await this.#client.ask("clock")
+    this.#heard(asked, this.#now(), milliseconds)
+    this.hertz = hertz
+  }
+
+  #heard(asked, answered, milliseconds) {
+    const [least, most] = [milliseconds - answered, milliseconds - asked]
+    const fit = this.#exchanges.filter(it => it.least <= most + ROUNDED && least <= it.most + ROUNDED)
+    this.#exchanges = [...fit, { least, most }].slice(-EXCHANGES)
+  }
+
+  /** Which tick it is now, with its fraction: 30.5 is in the middle of tick 30. NaN before the first answer. */
+  now() {
+    if (!this.#exchanges.length) return NaN
+    const { least, most } = this.#exchanges.reduce((one, other) => (other.most - other.least < one.most - one.least ? other : one))
+    const now = this.#now()
+    return Math.max(0, ((now + this.#offset.toward((least + most) / 2, now)) * this.hertz) / 1_000)
+  }
+}
+
 const PLACED = /^(.+?)((?:\[\d+\])+)$/
 
 /** The name in front of numbers in brackets, and these: `r.board[18][32]`. */
@@ -138,7 +231,9 @@ function arrayOf([label, first, count]) {
 
 /** What the numbers of a program stand for, as a host tells by `names`. */
 export class Names {
-  constructor({ vars = [], inputs = [], outputs = [], arrays = [], hidden = [] } = {}) {
+  constructor({ origins = 0, vars = [], inputs = [], outputs = [], arrays = [], hidden = [] } = {}) {
+    /** How many origins the program has. */
+    this.origins = origins
     this.vars = vars
     // The numbers of the variables that `vars` leaves out, and the names of those that it tells.
     this.hidden = hidden
@@ -225,7 +320,7 @@ const PARTS = {
   log: within(1e7), place: within(1e7, 1), events: within(1e7), withdrawn: within(1e7), rows: within(2 ** 20), watched: within(7),
   origin: within(63), input: within(255), output: within(255), time: within(15_625_000), micro: within(255), index: within(2 ** 32 - 1),
   count: within(Number.MAX_SAFE_INTEGER), number: within(99, 1), value: integer, frozen: flag, broken: flag,
-  version: within(99, 1), fingerprint: matching(/^[0-9a-f]{64}$/), digits: matching(/^[0-9a-f]{32}$/),
+  hertz: within(1_000, 1), version: within(99, 1), fingerprint: matching(/^[0-9a-f]{64}$/), digits: matching(/^[0-9a-f]{32}$/),
 }
 
 /** Reads as many words as the form names parts: `name`, or `name:part` where the part has another name. */
@@ -266,9 +361,10 @@ function recordOf([kind, ...words]) {
 const jsonOf = text => JSON.parse(text.replace(/"(?:[^"\\]|\\.)*"|-?\d[\d.eE+-]*/g, it => (it[0] === '"' ? it : `"${it}"`)))
 
 function namesOf(text) {
-  const { vars, inputs, outputs, arrays = [], hidden = [] } = jsonOf(text)
+  const { origins = "0", vars, inputs, outputs, arrays = [], hidden = [] } = jsonOf(text)
   const [numberOf, countOf] = [within(MOST_VALUES), within(2 ** 16, 1)]
   return new Names({
+    origins: within(64)(origins),
     arrays: listOf(arrays, MOST_ARRAYS, ([name, first, count]) => [textOf(name), numberOf(first), countOf(count)]),
     hidden: listOf(hidden, MOST_VARS, numberOf),
     vars: listOf(vars, MOST_VARS, textOf),
@@ -310,12 +406,15 @@ const READERS = {
   },
   reached: fields("log origin time micro"),
   digest: fields("log digits"),
+  keeps: words => (words.length === 1 && words[0] === "all" ? null : listOf(words, 64, PARTS.origin)),
+  clock: fields("tick:count milliseconds:count hertz"),
+  sent: fields("place time micro"),
 }
 
 // With what a line is answered, where that is not its own word; each may be refused.
 const ANSWERS = {
   event: "taken known", withdraw: "taken known", announce: "taken known", collect: "collected", watch: "watching", unwatch: "watching",
-  token: "may", row: "row none", output: "output none", release: "release none", log: "log none",
+  token: "may", send: "sent", row: "row none", output: "output none", release: "release none", log: "log none",
 }
 
 /** The value that a reply to this line stands for: a `Refused` where it refuses, null for `none`. What is none is an `Ended`. */
@@ -461,6 +560,9 @@ class Asked {
   constructor(line, watch = null) {
     this.line = line
     this.watch = watch
+    /** Whether it was sent, and may not be sent again. */
+    this.isSent = false
+    this.isOnce = line.startsWith("send ")
     this.answer = new Promise((resolve, reject) => Object.assign(this, { resolve, reject }))
     // Who asked may look at it later, or never.
     this.answer.catch(() => {})
@@ -479,7 +581,8 @@ export class Client {
   #hasBrought = false
   /** For how long the host owes a connection or the oldest answer, what counts that, and which line was left without one before. */
   #owed = 0
-  #clock
+  #counting
+  #hostClock = null
   #isConnected = false
   #late = null
   #timer
@@ -504,7 +607,6 @@ export class Client {
   connections = 0
   /** Resolved once the host told its names. */
   ready
-
   /**
    * @param {string} url where the host's WebSocket is, as "ws://127.0.0.1:7070/ws"
    * @param options `token`: who this is, where the host wants to know; `reconnect`: whether to connect again after a
@@ -526,7 +628,7 @@ export class Client {
     this.#connect()
     if (this.timeout === Infinity) return
     const part = Math.min(this.timeout / 8, PART)
-    this.#clock = setInterval(() => this.#wait(part), part)
+    this.#counting = setInterval(() => this.#wait(part), part)
   }
 
   #connect() {
@@ -560,7 +662,7 @@ export class Client {
   #greeted(names, program) {
     const { fingerprint } = program
     this.#greetedAt = performance.now()
-    if (this.#late?.isOfOpening) this.#late = null
+    if (this.#late?.isOfOpening || this.#late?.isOnce) this.#late = null
     this.#fingerprint ??= fingerprint
     if (this.#fingerprint !== fingerprint) {
       return this.#finish(new Ended(`the host has another program now, ${fingerprint}: it had ${this.#fingerprint}`))
@@ -582,7 +684,9 @@ export class Client {
   /** Sends lines, in as few messages as the host takes. */
   #send(asked) {
     let text = ""
-    for (const { line } of asked) {
+    for (const it of asked) {
+      const { line } = it
+      it.isSent = true
       if (text.length + line.length >= MOST_MESSAGE) {
         this.#socket.send(text)
         text = ""
@@ -598,6 +702,7 @@ export class Client {
     this.#socket = null
     this.#isConnected = false
     if (!this.#reconnect) return this.#finish(new Ended("the connection was lost"))
+    this.#leaveOut()
     const hasLasted = this.#greetedAt !== null && performance.now() - this.#greetedAt >= LASTED
     if (hasLasted || this.#hasBrought) this.#pause = FIRST_PAUSE
     this.#greetedAt = null
@@ -605,6 +710,14 @@ export class Client {
     this.#turn("connecting")
     this.#timer = setTimeout(() => this.#connect(), this.#pause)
     this.#pause = Math.min(2 * this.#pause, LONGEST_PAUSE)
+  }
+
+  /** What was sent and may not be sent again is not: who asked is told that nobody knows whether it was taken. */
+  #leaveOut() {
+    const asked = this.#asked.take()
+    const isLost = it => it.isOnce && it.isSent
+    this.#asked = new Queue(asked.filter(it => !isLost(it)))
+    for (const it of asked.filter(isLost)) it.reject(new Ended(`the connection was lost, and nobody knows whether this was taken: ${it.line}`))
   }
 
   /**
@@ -631,6 +744,12 @@ export class Client {
     callBack(it => this.onstate?.(it), state)
   }
 
+  /** What the host's clock says, once its own `ready` was asked for. */
+  get clock() {
+    this.#hostClock ??= new HostClock(this)
+    return this.#hostClock
+  }
+
   /** Calls back whenever a lost connection was made again, and the host told its names. */
   onReopened(callback) {
     this.#reopened.add(callback)
@@ -643,7 +762,7 @@ export class Client {
 
   #finish(error) {
     clearTimeout(this.#timer)
-    clearInterval(this.#clock)
+    clearInterval(this.#counting)
     this.#isOpened = false
     this.error ??= error
     this.#turn("closed")
@@ -733,6 +852,23 @@ export class Client {
     await this.ready
     const at = this.names.input(input)
     return this.ask(`event ${event.origin ?? this.names.owner(at)} ${tag} ${at} ${value}`)
+  }
+
+  /**
+   * Gives an input, by name or number, this value at a tick, or at the tick that it is: the host says at which tag it counts, as
+   * `{ place, time, micro }`. The host has to keep the input's origin. It is not safe to repeat: where the connection is lost before the
+   * answer it is rejected with `Ended`, and may have been taken or not.
+   */
+  async send(input, value, time = null) {
+    const words = [valueIn({ value }), ...(time === null ? [] : [whole("time", time, 15_625_000)])].join(" ")
+    await this.ready
+    return this.ask(`send ${this.names.input(input)} ${words}`)
+  }
+
+  /** The origins that the host keeps, in rising order: it announces for them by its clock. */
+  async keeps() {
+    await this.ready
+    return (await this.ask("keeps")) ?? Array.from({ length: this.names.origins }, (_, at) => at)
   }
 
   /** No event of this name (origin and tag) counts. */

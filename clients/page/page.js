@@ -18,12 +18,18 @@ const board = new Board(at("cells"), at("colours"))
 const MOST_WATCHED = 4096
 const EVERYBODY = "*"
 const limits = { log: "", origins: 0 }
+// What a host with a clock refuses, by number, as its page says how often it did.
+const TOLD_OF = { 15: "not for the client to say", 16: "late", 17: "under another event's name", 18: "crowded" }
 let client
 let token
 let program
 let watches = []
 let steps = null
 let cells = null
+// The origins that the host keeps, and what its clock and its counts of refusals said last.
+let kept = []
+let clock = null
+let refusals = ""
 let isDrawn = false
 let isAsking = false
 let mayTellLate = true
@@ -67,7 +73,7 @@ function draw() {
   drawTimeline()
   tellLate()
   tellAgain()
-  warn()
+  put("warning", warning())
 }
 
 function drawFacts() {
@@ -77,6 +83,14 @@ function drawFacts() {
   put("horizon", horizon ? tagText(horizon) : "-")
   const waiting = Math.max(0, outputs - released.added)
   put("counts", `${released.added} released${frozen ? ", frozen: an origin broke its word" : ""}, ${waiting} not yet${lost ? `, ${lost} lost` : ""}`)
+  put("clock", clock ? `tick ${clock.tick}, ${clock.hertz} a second` : "-")
+  put("kept", `${keptText()}: the host announces for ${kept.length === 1 ? "it" : "them"} by its clock`)
+  put("refused", refusals || "nothing so far")
+}
+
+function keptText() {
+  if (kept.length === originsNow().length) return "all origins"
+  return `${kept.length === 1 ? "origin" : "origins"} ${kept.join(", ")}`
 }
 
 function originsNow() {
@@ -191,7 +205,16 @@ function askOpen() {
   setTimeout(() => {
     isAsking = false
     replica.askOpen(client).then(touch, () => {})
+    if (kept.length) askClock().then(touch, () => {})
   }, PAUSE)
+}
+
+/** Asks what the clock says, and how much was refused. While it runs something is pushed each second at least. */
+async function askClock() {
+  const [told, metrics] = await Promise.all([client.ask("clock"), fetched("metrics")])
+  clock = told
+  const counts = Object.entries(TOLD_OF).map(([number, words]) => [measured(metrics, `warpd_refused_total{number="${number}"}`), words])
+  refusals = counts.filter(([count]) => count).map(it => it.join(" ")).join(", ")
 }
 
 /** What a push does, by what is watched. */
@@ -242,6 +265,7 @@ async function begin() {
   choose("input", client.names.inputs.map((it, number) => [number, `${it.name} (origin ${it.origin})`]))
   askOpen()
   readLimits().catch(() => {})
+  showKept(await client.keeps().catch(() => []))
   if (token !== undefined) put("rights", `This token may send for: ${rightsText(await client.ask(`token ${token}`))}`)
   program = await client.program()
   touch()
@@ -249,13 +273,29 @@ async function begin() {
 
 const rightsText = ({ may }) => ({ "*": "all origins", read: "none, it may only read" })[may] ?? `origins ${may}`
 
+/** Shows what is of hosts with a clock where this one keeps origins; who sends there needs no tag. */
+function showKept(origins) {
+  const isNew = origins.length > 0 && !kept.length
+  kept = origins
+  for (const part of document.querySelectorAll("[data-of-clock]")) part.hidden = !kept.length
+  if (isNew) at("kind").value = "send"
+  else if (!kept.length && at("kind").value === "send") at("kind").value = "event"
+  showFields()
+}
+
+/** What stands at an address of the host, as a text. */
+async function fetched(address) {
+  const headers = token === undefined ? {} : { Authorization: `Bearer ${token}` }
+  return (await fetch(address, { headers })).text()
+}
+
+/** What a host measured under this name; empty where that is nothing. */
+const measured = (metrics, name) => metrics.split("\n").find(it => it.startsWith(`${name} `))?.slice(name.length + 1) ?? ""
+
 /** What the host tells over HTTP alone: how long its log may get, and how many origins the program has. */
 async function readLimits() {
-  const headers = token === undefined ? {} : { Authorization: `Bearer ${token}` }
-  const metrics = await (await fetch("metrics", { headers })).text()
-  limits.log = /^warpd_log_records_limit (\d+)/m.exec(metrics)?.[1] ?? ""
-  const file = await (await fetch("program.json", { headers })).json()
-  limits.origins = Number(file.origins) || 0
+  limits.log = measured(await fetched("metrics"), "warpd_log_records_limit")
+  limits.origins = Number(JSON.parse(await fetched("program.json")).origins) || 0
   const all = program?.version > 3 ? [[EVERYBODY, "all together"]] : []
   choose("origin", [...originsNow().map(origin => [origin, `${origin}`]), ...all])
   touch()
@@ -278,23 +318,28 @@ function showFields() {
 const digits = id => `${BigInt(at(id).value)}`
 
 function lineOfForm() {
-  const tag = `${digits("time")} ${digits("micro")}`
   const input = Number(at("input").value)
   const kind = at("kind").value
+  if (kind === "send") return `send ${input} ${digits("value")}`
+  const tag = `${digits("time")} ${digits("micro")}`
   if (kind === "event") return `event ${client.names.owner(input)} ${tag} ${input} ${digits("value")}`
   if (kind === "withdraw") return `withdraw ${at("origin").value} ${tag}`
   return `announce ${at("origin").value} ${tag} ${digits("events")} ${digits("withdrawn")}`
 }
 
-/** Says so where what the form has would break its origin's word. */
-function warn() {
+/** Why what the form has is better not sent: it breaks its origin's word, or the host, which keeps the origin, does not take it. */
+function warning() {
   const kind = at("kind").value
-  const origin = kind === "event" ? client.names.inputs[at("input").value]?.origin : Number(at("origin").value)
-  const word = kind !== "announce" && at("time").value && replica.origins.get(origin)?.announced
-  const isLate = it => it && orderOf({ time: at("time").value, micro: at("micro").value }, it) < 0
-  const common = kind !== "announce" && at("time").value && replica.all.announced
-  const [who, tag] = isLate(word) ? [`Origin ${origin}`, word] : ["All origins together", common]
-  put("warning", isLate(tag) ? `${who} announced ${tagText(tag)}: this breaks that word.` : "")
+  const isInput = kind === "event" || kind === "send"
+  const origin = isInput ? client.names.inputs[at("input").value]?.origin : at("origin").value
+  const isKept = kept.includes(Number(origin)) || (origin === EVERYBODY && kept.length > 0)
+  if (kind === "announce") return isKept ? "The host alone announces for what it keeps." : ""
+  if (kind === "send") return isKept ? "" : `The host does not keep origin ${origin}: send an event.`
+  const isLate = it => it && at("time").value && orderOf({ time: at("time").value, micro: at("micro").value }, it) < 0
+  const word = replica.origins.get(Number(origin))?.announced
+  const [who, tag] = isLate(word) ? [`Origin ${origin}`, word] : ["All origins together", replica.all.announced]
+  if (!isLate(tag)) return ""
+  return `${who} announced ${tagText(tag)}: ${isKept ? "the host takes nothing before it" : "this breaks that word"}.`
 }
 
 function tellAnswer(text, kind = "") {

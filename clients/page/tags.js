@@ -14,8 +14,9 @@ export function recordText(record, names) {
   return `${record.origin === null ? "all origins together announce" : `origin ${record.origin} announces`} ${record.events} ${record.events === 1 ? "event" : "events"}${withdrawn}`
 }
 
-/** What an answer to a record means. */
+/** What an answer to a record, or to an input, means. */
 export function answerText(answer) {
+  if (answer.time !== undefined) return `sent ${answer.place}: it counts at ${tagText(answer)}, and stands at place ${answer.place} of the log.`
   if (answer.isNew) return `taken ${answer.place}: it is new, and stands at place ${answer.place} of the log.`
   return `known ${answer.place}: it was there already, at place ${answer.place} of the log.`
 }

@@ -8,6 +8,7 @@ import signal
 import socket
 import subprocess
 import sys
+import tempfile
 import threading
 import time
 from contextlib import contextmanager, suppress
@@ -30,6 +31,18 @@ class Game:
     def __init__(self, words):
         self.words, self.host, self.link = words, None, None
         self.delay, self.tick, self.ticks = words.delay, words.tick, words.ticks
+
+    def program(self, file, folder):
+        """The program's file; a game may have another one in this folder."""
+        return file
+
+    def host_words(self):
+        """What the host is told beside where it listens."""
+        return []
+
+    def begins(self, start):
+        """Starts the host, at once or when its players are there."""
+        start()
 
     def told(self):
         return {"host": self.host, "link": self.link, "tick": self.tick, "ticks": self.ticks}
@@ -114,9 +127,9 @@ class Pages(SimpleHTTPRequestHandler):
         pass
 
 
-def start_host(program, file, port, allowed):
+def start_host(program, file, port, allowed, more):
     """A host of a program file, which ends with its standard input. Pages reach it by the names that are allowed."""
-    words = [program, "host", file, "--listen", f"127.0.0.1:{port}", "--until-input-ends"]
+    words = [program, "host", file, "--listen", f"127.0.0.1:{port}", "--until-input-ends", *more]
     for origin in allowed:
         words += ["--allow-origin", origin]
     host = subprocess.Popen(words, stdin=subprocess.PIPE, stdout=subprocess.PIPE, stderr=subprocess.DEVNULL, text=True)
@@ -151,26 +164,30 @@ def is_new(file):
 @contextmanager
 def served(name, game):
     """Serves the game of this name: a host of examples/NAME.json, a link to it, and the pages, of which this is the address."""
-    program, folder = ROOT / "examples" / f"{name}.json", Path(__file__).resolve().parent / name
-    words = game.words
+    folder, words = Path(__file__).resolve().parent / name, game.words
     make_ready(words.program, words.engine)
     port = free_port()
     link = Link(("127.0.0.1", port), game)
     game.host, game.link = f"127.0.0.1:{port}", link.address
+    made = tempfile.TemporaryDirectory()
+    program = game.program(ROOT / "examples" / f"{name}.json", Path(made.name))
     Pages.game, Pages.engine, Pages.program = game, words.engine or ENGINE, program
     server = ThreadingHTTPServer(("127.0.0.1", 0), partial(Pages, directory=str(folder)))
     threading.Thread(target=server.serve_forever, daemon=True).start()
     address = f"http://127.0.0.1:{server.server_port}"
     signal.signal(signal.SIGTERM, lambda *_: sys.exit(0))
-    host = start_host(words.program, program, port, (address, f"http://{link.address}"))
+    hosts, allowed = [], (address, f"http://{link.address}")
     try:
+        game.begins(lambda: hosts.append(start_host(words.program, program, port, allowed, game.host_words())))
         threading.Thread(target=run_until_end, args=(game,), daemon=True).start()
         yield address
     except KeyboardInterrupt:
         pass
     finally:
-        host.stdin.close()
-        host.wait(15)
+        for host in hosts:
+            host.stdin.close()
+            host.wait(15)
+        made.cleanup()
 
 
 def beats(game, pause=0):
@@ -195,14 +212,16 @@ def run_until_end(game):
         game.run()
 
 
-def read_words(name, about, delay, most_delay, ticks, most_ticks):
-    """What the command line says."""
+def read_words(name, about, delay, most_delay, ticks, most_ticks, more=None):
+    """What the command line says; `more` has further options."""
     parser = argparse.ArgumentParser(prog=f"examples/web/{name}/start", description=about.split("\n")[0])
     parser.add_argument("program", metavar="PROGRAM", nargs="?", default=str(ROOT / "warpd"), help="./warpd where none is given")
     parser.add_argument("--engine", type=Path, metavar="FILE", help="the engine of the pages: out/engine.wasm, which is built where it is not there")
     parser.add_argument("--delay", type=int, default=delay, metavar="MS", help=f"how late a page hears of another one at first: {delay}")
     parser.add_argument("--tick", type=int, default=100, metavar="MS", help="how long a tick is: 100")
     parser.add_argument("--ticks", type=int, default=ticks, metavar="N", help=f"how many ticks are played: {ticks}, at most {most_ticks}")
+    for option, how in (more or {}).items():
+        parser.add_argument(option, **how)
     words = parser.parse_args()
     if not (0 <= words.delay <= most_delay and 1 <= words.tick <= 10_000 and 1 <= words.ticks <= most_ticks):
         parser.error("out of range")

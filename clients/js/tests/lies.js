@@ -27,6 +27,9 @@ export const NO_REPLIES = {
   board: ["board 1000000000000000000 0", "board 1048577 0", "row 5 0 0 3"], "row 0": ["none 1", "output 1 5 0 0 3"],
   "counts 0": ["counts 1 0 1 0 5", "reached 1 0 5 0"], "reached 0": ["reached 1 64 5 0"],
   digest: ["digest 1", `digest 1 ${"0".repeat(31)}`, `digest 1 ${"A".repeat(32)}`, `digest 1 ${"0".repeat(33)}`],
+  "send 0 3": ["taken 1", "known 1", "sent 0 5 0", "sent 1 5", "sent 1 5 256", "sent 1 15625001 0", "sent 1 5 0 0", "none 0"],
+  keeps: ["keeps *", "keeps 64", "keeps 0 x", "keeps all 0", "keeps ALL", `keeps${" 0".repeat(65)}`, "clock 1 2 3", "none 0"],
+  clock: ["clock", "clock 1 2", "clock 1 2 0", "clock 1 2 1001", "clock -1 2 3", "clock 1 2.5 3", "keeps all", "none"],
   "watch log 1": ["watching 8", "may *"], "unwatch log": ["may *"], "token T": ["may all", "watching 1", "may 64", "may 0 x"],
   nonsense: ["taken 1", "nonsense 1", "constructor 1"],
 }

@@ -30,16 +30,16 @@ from typing import BinaryIO, NamedTuple, Optional, Union
 
 from .replies import (
     MEANINGS, MOST_ORIGINS, MOST_ROWS, MOST_ROWS_OF_3, MOST_VALUES, Announce, AnnounceAll, Board, Breach, Cells, Collected, Count,
-    Counts, Ended, Entry, Event, Horizon, Known, Names, Nothing, Output, Reached, Record, Refused, Row, Shape, Tag, Taken, Var, Withdraw, cut, no_reply,
-    record_of, reply_of, spelled,
+    Counts, Ended, Entry, Event, Horizon, Known, Names, Nothing, Output, Reached, Record, Refused, Row, Sent, Shape, Tag, Taken, Var, Withdraw,
+    cut, no_reply, record_of, reply_of, spelled,
 )
 from .wire import LONGEST, Pipes, Wire
 
 __all__ = [
-    "Announce", "AnnounceAll", "Announcer", "Board", "Breach", "Broken", "Carrier", "Cells", "Client", "Collected", "Count", "Counts", "Differ",
-    "Digest", "Due", "Ended", "Entry", "Event", "Frozen", "Horizon", "HostClient", "Known", "Logged", "Names", "Nothing", "Output", "Push",
-    "Reached", "Record", "Refused", "Released", "Rollback", "Row", "Shape", "Skipped", "Step", "Tag", "Taken", "Var", "Variables", "Withdraw",
-    "carry",
+    "Announce", "AnnounceAll", "Announcer", "Board", "Breach", "Broken", "Carrier", "Cells", "Client", "Collected", "Count", "Counts",
+    "Differ", "Digest", "Due", "Ended", "Entry", "Event", "Frozen", "Horizon", "HostClient", "HostClock", "Known", "Logged", "Names",
+    "Nothing", "Output", "Push", "Reached", "Record", "Refused", "Released", "Rollback", "Row", "Sent", "Shape", "Skipped", "Step", "Tag",
+    "Taken", "Var", "Variables", "Withdraw", "carry",
 ]
 # So many lines are sent before their replies are read: they fit into the buffers on the way, so neither side waits for the other.
 WINDOW = 256
@@ -652,5 +652,5 @@ def carry(addresses: Sequence[tuple[str, int]], pause: float = 0.05, timeout: fl
 
 
 from .hosted import (  # noqa: E402 (which stands on all of this)
-    Broken, Digest, Due, Frozen, HostClient, Logged, Push, Released, Rollback, Skipped, Step, Variables,
+    Broken, Digest, Due, Frozen, HostClient, HostClock, Logged, Push, Released, Rollback, Skipped, Step, Variables,
 )

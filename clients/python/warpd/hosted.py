@@ -13,7 +13,8 @@ from collections import deque
 from collections.abc import Callable, Iterator
 from typing import NamedTuple, Optional, TypeVar, Union
 
-from . import Cells, Client, Counts, Ended, Horizon, Names, Output, Reached, Record, Tag, cut, record_of, reply_of
+from . import Cells, Client, Counts, Ended, Horizon, Names, Output, Reached, Record, Sent, Tag, cut, record_of, reply_of
+from .ticking import HostClock
 from .replies import (
     COUNT, FLAG, LOG, MICRO, MOST_CELLS, MOST_ORIGINS, MOST_PORTS, MOST_VALUES, MOST_VARIABLES, NUMBER, ORIGIN, PLACE, PORT, TIME,
     VALUE, json_of, no_reply, number_of, numbers_of,
@@ -22,6 +23,8 @@ from .replies import (
 Answer = TypeVar("Answer")
 # No program has more entries pending, and no step more due.
 MOST_PENDING = 256
+# How many ticks a second a host's clock may have.
+HERTZ = (1, 1_000)
 FINGERPRINT = re.compile(r"[0-9a-f]{64}", re.ASCII)
 DIGEST = re.compile(r"[0-9a-f]{32}", re.ASCII)
 # What reading a text raises that is not of its form.
@@ -268,6 +271,18 @@ def _digest_of(text: str) -> Digest:
     return Digest(number_of(log, LOG), digits)
 
 
+def _clock_of(text: str) -> tuple[int, int]:
+    _, milliseconds, hertz = numbers_of(text.split(" "), COUNT, COUNT, HERTZ)
+    return milliseconds, hertz
+
+
+def _kept_of(text: str, origins: int) -> tuple[int, ...]:
+    if text == "all":
+        return tuple(range(origins))
+    words = text.split(" ") if text else []
+    return tuple(numbers_of(words, *[ORIGIN] * min(len(words), MOST_ORIGINS)))
+
+
 def _with_cells(kept: Optional[Cells], some: Cells) -> Cells:
     """All cells that are watched, behind a push of some of them."""
     if kept is None or (some.first == kept.first and len(some.values) >= len(kept.values)):
@@ -294,6 +309,8 @@ class HostClient(Client):
         self._waiting: dict[str, deque[Push]] = {}
         self._next: dict[str, Union[int, str, None]] = {}
         self._cells: Optional[Cells] = None
+        # What the host's clock says: `clock.now()` is the tick that it is.
+        self.clock = HostClock(self._ask_clock)
         super().__init__(host, port, timeout)
 
     def _connect(self) -> None:
@@ -382,6 +399,20 @@ class HostClient(Client):
     def reached(self, origin: int) -> Reached:
         """Up to which tag the announcements of an origin are reached."""
         return self.ask(f"reached {origin}")
+
+    def send(self, input: Union[int, str], value: int, time: Optional[int] = None) -> Sent:
+        """Gives an input, by name or number, this value at a tick, or at the tick that it is; the host gives it its tag. The host
+        has to keep the input's origin. It is not safe to repeat: after an `Ended` it may have been taken or not."""
+        at = "" if time is None else f" {time}"
+        return self.ask(f"send {self.names.input(input)} {value}{at}")
+
+    def keeps(self) -> tuple[int, ...]:
+        """The origins that the host keeps, in rising order: it announces for them by its clock."""
+        return self._told("keeps", lambda text: _kept_of(text, self.names.origins))
+
+    def _ask_clock(self) -> tuple[int, int]:
+        """How many milliseconds lie behind tick 0 of the host's clock, and how many ticks it has a second."""
+        return self._told("clock", _clock_of)
 
     def digest(self) -> Digest:
         """One number for the set of the records that the host counted: hosts with the same records have the same."""

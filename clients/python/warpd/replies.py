@@ -18,6 +18,9 @@ MEANINGS = {
     4: "the program has no such input", 5: "the input belongs to another origin", 6: "the program has no such variable",
     7: "the log is full", 8: "no memory", 9: "the line is too long", 10: "busy: too many lines of this session wait",
     11: "there is no board: only a server has one", 13: "this client may not send that", 14: "the journal cannot be written",
+    15: "only the host announces for an origin that it keeps, and only for such a one it takes what is sent",
+    16: "late: the host has announced that nothing more comes before", 17: "another event has this name",
+    18: "crowded: this tick has as many inputs of the origin as the host takes",
 }
 # No program has more, of any version.
 MOST_ORIGINS, MOST_VARIABLES, MOST_PORTS = 64, 1_024, 256
@@ -39,7 +42,7 @@ IS_NUMBER = re.compile(r"0|-?[1-9][0-9]{0,19}", re.ASCII).fullmatch
 
 
 class Refused(Exception):
-    """A line that was refused: its number (1 to 11, 13 and 14; there is no 12), what that means, and the line. Nothing was
+    """A line that was refused: its number (1 to 11 and 13 to 18; there is no 12), what that means, and the line. Nothing was
     changed."""
 
     def __init__(self, number: int, line: str):
@@ -119,6 +122,13 @@ class Known(NamedTuple):
     """The same record stands at this place of the log already."""
 
     place: int
+
+
+class Sent(NamedTuple):
+    """The input that was sent is a record at this place of the log, at the tag that the host gave it."""
+
+    place: int
+    tag: Tag
 
 
 class Var(NamedTuple):
@@ -237,6 +247,8 @@ class Names(NamedTuple):
     # Each array with the number of its first cell, and how many it has; and the numbers of the variables that `vars` leaves out.
     arrays: Sequence[tuple[str, int, int]] = ()
     hidden: Sequence[int] = ()
+    # How many origins the program has, as a host tells it.
+    origins: int = 0
 
     @classmethod
     def read(cls, path: Union[str, PathLike]) -> Names:
@@ -251,7 +263,7 @@ class Names(NamedTuple):
             told = json_of(text)
             arrays = [(name, first, count) for name, first, count in told.get("arrays", [])]
             inputs = [(origin, name) for origin, name in told["inputs"]]
-            made = cls(told["vars"], inputs, told["outputs"], arrays, told.get("hidden", []))
+            made = cls(told["vars"], inputs, told["outputs"], arrays, told.get("hidden", []), told.get("origins", 0))
         except (KeyError, TypeError, ValueError, RecursionError):
             raise ValueError(f"no names: {cut(text)}") from None
         are_lists = all(isinstance(told[key], list) and len(told[key]) <= most for key, most in MOST_NAMES.items())
@@ -259,6 +271,7 @@ class Names(NamedTuple):
         names = (*made.vars, *made.outputs, *(name for _, name in made.inputs), *(name for name, *_ in made.arrays))
         numbers = (*made.hidden, *(it for _, *cells in made.arrays for it in cells))
         are_origins = all(type(origin) is int and 0 <= origin < MOST_ORIGINS for origin, _ in made.inputs)
+        are_origins = are_origins and type(made.origins) is int and 0 <= made.origins <= MOST_ORIGINS
         are_few = len(made.arrays) <= MOST_ARRAYS and all(type(it) is int and 0 <= it <= MOST_VALUES for it in numbers)
         if not are_lists or not are_origins or not are_few or not all(isinstance(it, str) for it in names):
             raise ValueError(f"no names: {cut(text)}")
@@ -352,6 +365,7 @@ RECORDS: dict[str, tuple[tuple[Range, ...], Callable]] = {
 }
 REPLIES: dict[str, tuple[tuple[Range, ...], Callable]] = {
     **dict.fromkeys(("outputs", "released", "lost"), ((LOG, COUNT), Count)),
+    "sent": ((PLACE, TIME, MICRO), lambda p, t, m: Sent(p, Tag(t, m))),
     **dict.fromkeys(("output", "release"), ((LOG, TIME, MICRO, PORT, VALUE), lambda n, t, m, p, v: Output(n, Tag(t, m), p, v))),
     "taken": ((PLACE,), Taken), "known": ((PLACE,), Known), "collected": ((LOG,), Collected), "var": ((LOG, VALUE), Var),
     "horizon": ((LOG, TIME, MICRO), lambda n, t, m: Horizon(n, Tag(t, m))),
@@ -363,7 +377,7 @@ REPLIES: dict[str, tuple[tuple[Range, ...], Callable]] = {
 }
 # With which words a line is answered, where that is not the line's own; each may be refused.
 ANSWERS = {
-    **dict.fromkeys(RECORDS, ("taken", "known")), "collect": ("collected",), "row": ("row", "none"),
+    **dict.fromkeys(RECORDS, ("taken", "known")), "collect": ("collected",), "send": ("sent",), "row": ("row", "none"),
     **{word: (word, "none") for word in ("output", "release", "log")},
 }
 

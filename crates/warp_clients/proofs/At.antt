@@ -16,7 +16,7 @@ use Rattle.warp_clients.specs.declared.saying.Saying.{Saying}
 use Rattle.warp_clients.proofs.InPlaces.{none_some, some_same}
 use Rattle.warp_clients.proofs.Moving.{set_own}
 
-got : (xs : List ClientState) (n : ℕ) (v c : ClientState) → slice_get xs n ≡ Some c → v ≡ slice_index_or xs n v → v ≡ c
+pub got : (xs : List ClientState) (n : ℕ) (v c : ClientState) → slice_get xs n ≡ Some c → v ≡ slice_index_or xs n v → v ≡ c
 got [] n v c there is = absurd (none_some c there)
 got (x ∷ xs) zero v c there is = is ∙ some_same x c there
 got (x ∷ xs) (suc n) v c there is = got xs n v c there is

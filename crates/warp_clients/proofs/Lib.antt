@@ -8,3 +8,4 @@ mod Entered
 mod Cuts
 mod At
 mod OwnSteps
+mod SentEnds

@@ -10,7 +10,9 @@ use Rattle.warp_clients.specs.declared.client.Listened.{Listened}
 use Rattle.warp_clients.specs.declared.client.Listened.TheVariants as listen
 use Rattle.warp_clients.specs.Client as deed
 use Rattle.warp_clients.specs.Client.{ClientState, Closes, Common, Deed, DoesFor, IsInnerDeed, IsMe, Listens, Loses, MayCarry, MayEnd, MayGrant, MayRefuse, MaySpeak, MayUpgrade, Rests}
-use Rattle.warp_clients.specs.Crowd.{AreInnerDeeds, Becomes, CrowdState, DoEach, MayDo, Moves, MovesAt}
+use Rattle.warp_hub.specs.declared.words.Word.{Word}
+use Rattle.warp_clients.specs.declared.saying.Saying.TheVariants as saying
+use Rattle.warp_clients.specs.Crowd.{AreInnerDeeds, Becomes, CrowdState, DoEach, MayDo, MayTell, Moves, MovesAt}
 use Rattle.warp_clients.specs.Steps.{AreInner, ClientsState, IsInner, Runs, SomeRun, Step, StepDoes}
 use Rattle.warp_clients.specs.Steps as step
 use Rattle.warp_clients.proofs.InPlaces.{get_same, some_same}
@@ -101,13 +103,22 @@ ends k who old new = moves_by k who MayEnd old new ended
     ended c c' (inl same) = none k c c' same
     ended c c' (inr e) = one k deed.Ended c c' tt e
 
+spoken : (k : Common) (said : Saying) (len : ℕ) (text : List ℕ) → len ≤ k.limit → (c c' : ClientState)
+    → MaySpeak k.facts k.clock said text c c' → Comes k c c'
+spoken k said len text most c c' (inl s) = one k (deed.Spoke said len text) c c' tt (most, s)
+spoken k said len text most c c' (inr e) = one k deed.Ended c c' tt e
+
 pub speaks : (k : Common) (who : ClientId) (said : Saying) (len : ℕ) (text : List ℕ) (old new : List ClientState) → len ≤ k.limit
-    → Becomes who (MaySpeak k.facts said text) old new → MovesAt k who old new
-speaks k who said len text old new most b = moves_by k who (MaySpeak k.facts said text) old new spoken (inr b)
-  where
-    spoken : (c c' : ClientState) → MaySpeak k.facts said text c c' → Comes k c c'
-    spoken c c' (inl s) = one k (deed.Spoke said len text) c c' tt (most, s)
-    spoken c c' (inr e) = one k deed.Ended c c' tt e
+    → Becomes who (MaySpeak k.facts k.clock said text) old new → MovesAt k who old new
+speaks k who said len text old new most b = moves_by k who (MaySpeak k.facts k.clock said text) old new (spoken k said len text most) (inr b)
+
+-- its word is answered, if of so long a log may be told
+pub tells : (k : Common) (who : ClientId) (len : ℕ) (text : List ℕ) (old new : List ClientState) → MayTell k len text who old new
+    → MovesAt k who old new
+tells k who len text old new (inl same) = inl same
+tells k who len text old new (inr t) =
+    moves_by k who (λ c c'. (said : Word) × MaySpeak k.facts k.clock (saying.Word said) text c c') old new
+    (λ c c' s. spoken k (saying.Word s.0) len text t.0 c c' s.1) (inr t.1)
 
 pub refuses : (k : Common) (who : ClientId) (text : List ℕ) (old new : List ClientState) → Becomes who (MayRefuse text) old new → MovesAt k who old new
 refuses k who text old new b = moves_by k who (MayRefuse text) old new refused (inr b)

@@ -434,6 +434,8 @@ module _ {T : Type 0} (facts : TimelineFacts T) where
       told_rest tales s s' (ap (λ (x : ClientsState T). x.room) does) (ap (λ (x : ClientsState T). x.crowd.clients) does) told
   told_on f (step.Renews entries) tales s s' same does told =
       told_rest tales s s' (ap (λ (x : ClientsState T). x.room) does.2) (ap (λ (x : ClientsState T). x.crowd.clients) does.2) told
+  told_on f (step.Clocks clock) tales s s' same does told =
+      told_rest tales s s' (ap (λ (x : ClientsState T). x.room) does) (ap (λ (x : ClientsState T). x.crowd.clients) does) told
 
   -- what may be sent without a token stays so, also where the tokens are others
   firsts_stay : (one : Step) (s s' : ClientsState T) → StepDoes facts one s s'
@@ -449,6 +451,7 @@ module _ {T : Type 0} (facts : TimelineFacts T) where
   firsts_stay (step.Works work) s s' does = ap (λ (c : CrowdState). first_rights c.common.facts) does.2
   firsts_stay (step.Limits len) s s' does = ap (λ (x : ClientsState T). first_rights x.crowd.common.facts) does
   firsts_stay (step.Fails is) s s' does = ap (λ (x : ClientsState T). first_rights x.crowd.common.facts) does
+  firsts_stay (step.Clocks clock) s s' does = ap (λ (x : ClientsState T). first_rights x.crowd.common.facts) does
   firsts_stay (step.Renews entries) s s' does =
       ap (λ (x : ClientsState T). first_rights x.crowd.common.facts) does.2 ∙ sym (ap (λ (tokens : Option (List Token)). first_of tokens) does.1)
 
@@ -476,6 +479,7 @@ module _ {T : Type 0} (facts : TimelineFacts T) where
   allowed_one (step.Limits len) tales s s' does told = tt
   allowed_one (step.Fails is) tales s s' does told = tt
   allowed_one (step.Renews entries) tales s s' does told = tt
+  allowed_one (step.Clocks clock) tales s s' does told = tt
 
   pub all_allowed : (f : Facts) (steps : List Step) (tales : Tales) (s s' : ClientsState T) → first_rights s.crowd.common.facts ≡ first_rights f
       → Runs facts steps s s' → AreTold tales s → AreAllowed f steps tales
@@ -524,6 +528,9 @@ module _ {T : Type 0} (facts : TimelineFacts T) where
       subst (λ (r : RoomState T). RoomRuns facts (room_steps steps) r s'.room) (ap (λ (x : ClientsState T). x.room) runs.1)
       (room_runs steps runs.0 s' runs.2)
   room_runs (step.Fails is ∷ steps) s s' runs =
+      subst (λ (r : RoomState T). RoomRuns facts (room_steps steps) r s'.room) (ap (λ (x : ClientsState T). x.room) runs.1)
+      (room_runs steps runs.0 s' runs.2)
+  room_runs (step.Clocks clock ∷ steps) s s' runs =
       subst (λ (r : RoomState T). RoomRuns facts (room_steps steps) r s'.room) (ap (λ (x : ClientsState T). x.room) runs.1)
       (room_runs steps runs.0 s' runs.2)
   room_runs (step.Renews entries ∷ steps) s s' runs =

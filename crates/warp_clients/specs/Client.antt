@@ -16,6 +16,7 @@ use Rattle.warp_clients.specs.declared.client.Listened.{Listened}
 use Rattle.warp_clients.specs.declared.client.Listened.TheVariants as listened
 use Rattle.warp_clients.specs.declared.saying.Saying.{Saying}
 use Rattle.warp_clients.specs.declared.saying.Saying.TheVariants as saying
+use Rattle.warp_clients.specs.declared.sending.ClockTold.{ClockTold}
 
 -- A client: its round, whether it is there, its connection, what it may send, what it said that is neither in the room nor
 -- answered, how many of its lines are in the room, the bytes of what it was told that its connection was not told yet, how
@@ -32,12 +33,13 @@ pub record ClientState : Type 0 where
   pub over : Bool
   pub gone : Bool
 
--- what all clients have in common: what the host knows from its start, whether records are refused, and of how long a log
--- may be told
+-- what all clients have in common: what the host knows from its start, whether records are refused, of how long a log may be
+-- told, and what the host's clock says, if it has one
 pub record Common : Type 0 where
   pub facts : Facts
   pub failing : Bool
   pub limit : ℕ
+  pub clock : Option ClockTold
 
 -- this is the client
 abbrev pub IsMe : ClientId → ClientState → Type 0
@@ -99,8 +101,8 @@ abbrev pub IsNext : Saying → ClientState → Type 0
 IsNext said c = (c.over ≡ false) × (c.owed ≡ 0) × (c.slot ≡ Some said)
 
 -- what it said is answered by this text
-abbrev pub Speaks : Facts → Saying → List ℕ → ClientState → ClientState → Type 0
-Speaks f said text c c' = IsNext said c × IsOwn f said text × (c' ≡ record c { slot = None; out = c.out ++ text })
+abbrev pub Speaks : Facts → Option ClockTold → Saying → List ℕ → ClientState → ClientState → Type 0
+Speaks f clock said text c c' = IsNext said c × IsOwn f clock said text × (c' ≡ record c { slot = None; out = c.out ++ text })
 
 -- its token is none: it is counted, and behind a few of these the client is told nothing more
 abbrev pub Refuses : List ℕ → ClientState → ClientState → Type 0
@@ -170,7 +172,7 @@ DoesFor k Quieted c c' = Quiets c c'
 DoesFor k Silent c c' = SaysNothing c c'
 DoesFor k (Heard bytes) c c' = Hears bytes c c'
 DoesFor k (Kept piece said) c c' = Keeps k.facts k.failing piece said c c'
-DoesFor k (Spoke said len text) c c' = (len ≤ k.limit) × Speaks k.facts said text c c'
+DoesFor k (Spoke said len text) c c' = (len ≤ k.limit) × Speaks k.facts k.clock said text c c'
 DoesFor k (Refused text) c c' = Refuses text c c'
 DoesFor k (Granted rights text) c c' = Grants rights text c c'
 DoesFor k (Pushed len text) c c' = (len ≤ k.limit) × Pushes text c c'
@@ -223,8 +225,8 @@ MayCarry c c' = (c' ≡ c) ⊎ (Loses c c' ⊎ ((text : List ℕ) × Carries tex
 abbrev pub MayEnd : ClientState → ClientState → Type 0
 MayEnd c c' = (c' ≡ c) ⊎ Ends c c'
 
-abbrev pub MaySpeak : Facts → Saying → List ℕ → ClientState → ClientState → Type 0
-MaySpeak f said text c c' = Speaks f said text c c' ⊎ Ends c c'
+abbrev pub MaySpeak : Facts → Option ClockTold → Saying → List ℕ → ClientState → ClientState → Type 0
+MaySpeak f clock said text c c' = Speaks f clock said text c c' ⊎ Ends c c'
 
 abbrev pub MayRefuse : List ℕ → ClientState → ClientState → Type 0
 MayRefuse text c c' = Refuses text c c' ⊎ Ends c c'

@@ -1,11 +1,12 @@
 -- All clients of a room, in their places.
-use Rattle.std.specs.Prelude.{◌≡◌, ◌⊎◌, ℕ, Bool, true, false, List, [], ◌∷◌, ◌++◌, Option, Some, None, length, slice_get, slice_set}
+use Rattle.std.specs.Prelude.{◌≡◌, ◌⊎◌, ◌≤◌, ℕ, Bool, true, false, List, [], ◌∷◌, ◌++◌, Option, Some, None, length, slice_get, slice_set}
 use Rattle.warp_record.specs.declared.line.Line.{Line}
 use Rattle.warp_watch.specs.declared.client_id.ClientId.{ClientId}
 use Rattle.warp_web.specs.Lines.{nothing_passed}
 use Rattle.warp_web.specs.Wire.{IsOutput, Passes}
-use Rattle.warp_clients.specs.Client.{ClientState, Common, Deed, DoesFor, IsInnerDeed, IsMe, IsNext}
+use Rattle.warp_clients.specs.Client.{ClientState, Common, Deed, DoesFor, IsInnerDeed, IsMe, IsNext, MaySpeak}
 use Rattle.warp_clients.specs.Sayings.{first_rights}
+use Rattle.warp_hub.specs.declared.words.Word.{Word}
 use Rattle.warp_clients.specs.declared.saying.Saying.{Saying}
 use Rattle.warp_clients.specs.declared.saying.Saying.TheVariants as saying
 
@@ -75,6 +76,12 @@ Moves who old new = (new.common ≡ old.common) × MovesAt old.common who old.cl
 -- some such things are done for this client alone, or nothing is
 abbrev pub MayDo : (ClientState → ClientState → Type 0) → ClientId → List ClientState → List ClientState → Type 0
 MayDo R who old new = (new ≡ old) ⊎ Becomes who R old new
+
+-- its word may be answered by this text, which tells of a log of this length, if that may be told; else nothing changes
+abbrev pub MayTell : Common → ℕ → List ℕ → ClientId → List ClientState → List ClientState → Type 0
+MayTell k len text who old new =
+    (new ≡ old)
+    ⊎ ((len ≤ k.limit) × Becomes who (λ c c'. (said : Word) × MaySpeak k.facts k.clock (saying.Word said) text c c') old new)
 
 -- these bytes are what is written to it next: nothing where its connection is lost
 abbrev pub IsOutputOf : List ℕ → ClientState → Type 0

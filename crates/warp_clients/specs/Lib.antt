@@ -6,3 +6,4 @@ pub mod Steps
 pub mod Tale
 pub mod Codes
 pub mod Refusals
+pub mod Sending

@@ -1,5 +1,6 @@
 -- What a line is read to be, and what is answered to it here.
-use Rattle.std.specs.Prelude.{◌≡◌, ◌⊎◌, ◌≤◌, ◌+◌, ◌&&◌, ℕ, Bool, true, false, List, [], ◌∷◌, ◌++◌, Option, Some, None, codes, if◌then◌else◌}
+use Rattle.std.specs.Prelude.{◌≡◌, ◌⊎◌, ◌≤◌, ◌+◌, ◌&&◌, ℕ, Bool, true, false, List, [], ◌∷◌, ◌++◌, Option, Some, None, codes, decimal, if◌then◌else◌}
+use Rattle.std.specs.List.{join_with_byte}
 use Rattle.sha2.specs.Sha256.{sha256}
 use Rattle.warp_record.specs.declared.line.Line.{Line}
 use Rattle.warp_record.specs.declared.line.Line.TheVariants as line
@@ -20,6 +21,7 @@ use Rattle.warp_hub.specs.Tokens.{rights_of}
 use Rattle.warp_hub.specs.Words.{IsToken, IsWord, token_spelling, word_spelling}
 use Rattle.warp_clients.specs.declared.saying.Saying.{Saying}
 use Rattle.warp_clients.specs.declared.saying.Saying.TheVariants as saying
+use Rattle.warp_clients.specs.declared.sending.ClockTold.{ClockTold}
 
 -- the rights without a token: none where there are tokens, else all
 abbrev pub first_of : Option (List Entry) → Rights
@@ -68,7 +70,7 @@ IsSaying f r failing (Whole bytes) s = IsTextSaying f r failing bytes s
 IsSaying f r failing Long s = s ≡ saying.Refuse refusal.TooLong
 IsSaying f r failing Torn s = s ≡ saying.Refuse refusal.Syntax
 
--- a word that is asked of the replica
+-- a word that is asked of the replica or the room
 abbrev pub IsAsked : Word → Type 0
 IsAsked word.Program = ⊥
 IsAsked word.Names = ⊥
@@ -76,6 +78,9 @@ IsAsked word.Vars = Unit {0}
 IsAsked (word.Cells first count) = Unit {0}
 IsAsked word.Releases = Unit {0}
 IsAsked word.Digest = Unit {0}
+IsAsked word.Keeps = Unit {0}
+IsAsked word.Clock = ⊥
+IsAsked (word.Send sent) = Unit {0}
 IsAsked (word.Release number) = Unit {0}
 IsAsked (word.Counts origin) = Unit {0}
 IsAsked (word.Reached origin) = Unit {0}
@@ -89,21 +94,29 @@ refused_13 = codes "refused 13\n"
 abbrev pub refused_14 : List ℕ
 refused_14 = codes "refused 14\n"
 
+-- the answer to `clock`: the tick that it is, the milliseconds since tick 0, and the ticks of a second; without a clock it is that to a
+-- line that is none
+abbrev pub clock_line : Option ClockTold → List ℕ
+clock_line None = reply_line (reply.Refused refusal.Syntax)
+clock_line (Some c) =
+    join_with_byte 32 (codes "clock" ∷ decimal c.tick ∷ decimal c.milliseconds ∷ decimal c.hertz ∷ []) ++ 10 ∷ []
+
 -- the answer to a word that begins or ends a watch: how many things the client watches then
 abbrev pub IsWatching : List ℕ → Type 0
 IsWatching text = (count : ℕ) × (count ≤ 7) × (text ≡ codes "watching " ++ (48 + count) ∷ 10 ∷ [])
 
--- The texts that are answered here. Of a word that is asked about the replica, and of a look, the answer is given with the
--- step that tells it.
-abbrev pub IsOwn : Facts → Saying → List ℕ → Type 0
-IsOwn f (saying.Line said) text = ⊥
-IsOwn f (saying.Word word.Program) text = text ≡ f.program.items ++ 10 ∷ []
-IsOwn f (saying.Word word.Names) text = text ≡ f.names.items ++ 10 ∷ []
-IsOwn f (saying.Word (word.Watch what)) text = IsWatching text
-IsOwn f (saying.Word (word.Unwatch what)) text = IsWatching text
-IsOwn f (saying.Word said) text = IsAsked said
-IsOwn f (saying.Look asked) text = Unit {0}
-IsOwn f (saying.Token found) text = ⊥
-IsOwn f (saying.Refuse why) text = text ≡ reply_line (reply.Refused why)
-IsOwn f saying.NotAllowed text = text ≡ refused_13
-IsOwn f saying.NotDurable text = text ≡ refused_14
+-- The texts that are answered here, by what the host knows from its start and what its clock says. Of a word that is asked about the
+-- replica or the room, and of a look, the answer is given with the step that tells it.
+abbrev pub IsOwn : Facts → Option ClockTold → Saying → List ℕ → Type 0
+IsOwn f clock (saying.Line said) text = ⊥
+IsOwn f clock (saying.Word word.Program) text = text ≡ f.program.items ++ 10 ∷ []
+IsOwn f clock (saying.Word word.Names) text = text ≡ f.names.items ++ 10 ∷ []
+IsOwn f clock (saying.Word word.Clock) text = text ≡ clock_line clock
+IsOwn f clock (saying.Word (word.Watch what)) text = IsWatching text
+IsOwn f clock (saying.Word (word.Unwatch what)) text = IsWatching text
+IsOwn f clock (saying.Word said) text = IsAsked said
+IsOwn f clock (saying.Look asked) text = Unit {0}
+IsOwn f clock (saying.Token found) text = ⊥
+IsOwn f clock (saying.Refuse why) text = text ≡ reply_line (reply.Refused why)
+IsOwn f clock saying.NotAllowed text = text ≡ refused_13
+IsOwn f clock saying.NotDurable text = text ≡ refused_14

@@ -1,5 +1,5 @@
 -- What the calls of a room's clients do, step by step.
-use Rattle.std.specs.Prelude.{◌≡◌, ◌⊎◌, ◌≤◌, ℕ, Bool, false, List, [], ◌∷◌, ◌++◌, Some, map}
+use Rattle.std.specs.Prelude.{◌≡◌, ◌⊎◌, ◌≤◌, ℕ, Bool, false, List, [], ◌∷◌, ◌++◌, Option, Some, map}
 use Rattle.warp_record.specs.declared.line.Line.{Line}
 use Rattle.warp_replica.specs.Answered.{TimelineFacts}
 use Rattle.warp_room.specs.Room.{RoomState}
@@ -11,6 +11,7 @@ use Rattle.warp_watch.specs.declared.client_id.ClientId.{ClientId}
 use Rattle.warp_clients.specs.Client.{ClientState, Deed, DoesFor, GoesIn, IsInnerDeed, Misses, Replies}
 use Rattle.warp_clients.specs.Crowd.{Becomes, CrowdState, GetsPlace, Goes, IsAway}
 use Rattle.warp_clients.specs.Entering.{GetsPlaceAs}
+use Rattle.warp_clients.specs.declared.sending.ClockTold.{ClockTold}
 
 -- a room, and its clients
 pub record ClientsState (T : Type 0) : Type 0 where
@@ -21,6 +22,7 @@ pub record ClientsState (T : Type 0) : Type 0 where
 -- goes. `Leaves who`: it goes. `Does who deed`: this is done for it. `Asks who said`: its line goes to the room. `Tells one`: the
 -- room's answer goes to who asked. `Drops one`: it goes to nobody. `Works step`: the room works. `Limits len`: of so long a log may
 -- be told. `Fails is`: records are refused, or not. `Renews entries`: the tokens are these from now on, where there were tokens.
+-- `Clocks clock`: the host's clock says this, or it has none.
 pub data Step : Type 0 where
   Joins : ClientId → Step
   Enters : ClientId → Rights → Step
@@ -34,6 +36,7 @@ pub data Step : Type 0 where
   Limits : ℕ → Step
   Fails : Bool → Step
   Renews : List Entry → Step
+  Clocks : Option ClockTold → Step
 
 -- execution, an answer to a line, or what the host says itself
 abbrev pub IsWork : RoomStep → Type 0
@@ -80,6 +83,7 @@ StepDoes facts (Limits len) s s' = s' ≡ record s { crowd = record s.crowd { co
 StepDoes facts (Fails is) s s' = s' ≡ record s { crowd = record s.crowd { common = record s.crowd.common { failing = is } } }
 StepDoes facts (Renews entries) s s' =
     (before : List Entry) × (s.crowd.common.facts.tokens ≡ Some before) × (s' ≡ with_tokens entries s)
+StepDoes facts (Clocks clock) s s' = s' ≡ record s { crowd = record s.crowd { common = record s.crowd.common { clock = clock } } }
 
 -- these steps, one after another
 abbrev pub Runs : {T : Type 0} → TimelineFacts T → List Step → ClientsState T → ClientsState T → Type 0
@@ -101,6 +105,7 @@ IsInner (Works step) = Unit {0}
 IsInner (Limits len) = ⊥
 IsInner (Fails is) = ⊥
 IsInner (Renews entries) = ⊥
+IsInner (Clocks clock) = Unit {0}
 
 abbrev pub AreInner : List Step → Type 0
 AreInner [] = Unit {0}

@@ -80,6 +80,7 @@ behind_step f who (step.Works work) t = t
 behind_step f who (step.Limits len) t = t
 behind_step f who (step.Fails is) t = t
 behind_step f who (step.Renews entries) t = t
+behind_step f who (step.Clocks clock) t = t
 
 abbrev pub behind_steps : Facts → ClientId → List Step → ClientTale → ClientTale
 behind_steps f who [] t = t
@@ -182,3 +183,4 @@ room_steps (step.Works work ∷ steps) = work ∷ room_steps steps
 room_steps (step.Limits len ∷ steps) = room_steps steps
 room_steps (step.Fails is ∷ steps) = room_steps steps
 room_steps (step.Renews entries ∷ steps) = room_steps steps
+room_steps (step.Clocks clock ∷ steps) = room_steps steps

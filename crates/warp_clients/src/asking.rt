@@ -1,11 +1,12 @@
 //! What is asked about the replica and its log, and what was told of it.
 
-ghost use Rattle.std.specs.Prelude.{IfSome};
+ghost use Rattle.std.specs.Prelude.{◌≡◌, ◌≤◌, ◌++◌, ◌∷◌, [], false, IfNone, IfSome, IsTrue};
 ghost use Rattle.warp_clients.specs.Sayings.{IsAsked};
 
 use std::alloc::Global;
 use std::collections::VecDeque;
-use warp_hub::Word;
+use std::marker::Model;
+use warp_hub::{Sending, Word};
 use warp_watch::{ClientId, Question};
 
 /// How many answers may wait until they may be told.
@@ -18,6 +19,10 @@ pub(crate) enum Asks {
     Of(Question),
     /// The digest of the log.
     Digest,
+    /// Which origins the room keeps.
+    Keeps,
+    /// That the room takes this input.
+    Send(Sending),
 }
 
 /// What a word asks; `None` where it is answered without.
@@ -29,11 +34,14 @@ pub(crate) fn asks_of(word: &Word) -> Option<Asks>
         Word::Cells(first, count) => Some(Asks::Of(Question::Cells { first, count })),
         Word::Releases => Some(Asks::Of(Question::Releases)),
         Word::Digest => Some(Asks::Digest),
+        Word::Keeps => Some(Asks::Keeps),
+        Word::Send(sent) => Some(Asks::Send(sent)),
         Word::Release(number) => Some(Asks::Of(Question::Release(number))),
         Word::Counts(origin) => Some(Asks::Of(Question::Counts(origin))),
         Word::Reached(origin) => Some(Asks::Of(Question::Reached(origin))),
         Word::Program => None,
         Word::Names => None,
+        Word::Clock => None,
         Word::Watch(_) => None,
         Word::Unwatch(_) => None,
     }
@@ -61,7 +69,7 @@ pub(crate) struct Waiting {
     pub(crate) text: Vec<u8>,
 }
 
-/// The questions, who waits for the digest, and what was told, each in order.
+/// The questions, who waits for the digest, and what was told, each in order. Contracts see what was told.
 #[derive(Drop)]
 pub(crate) struct Asking {
     asked: VecDeque<Asked>,
@@ -69,9 +77,20 @@ pub(crate) struct Asking {
     told: VecDeque<Waiting>,
 }
 
+impl Model for Asking {
+    ghost use Rattle.std.specs.Prelude.{List};
+    ghost use Rattle.warp_clients.specs.declared.asking.Waiting.{Waiting};
+
+    ghost Value = { List Waiting };
+
+    ghost view = { λ a. a.told.items };
+}
+
 impl Asking {
     /// Nothing was asked.
-    pub(crate) fn new(alloc: Global) -> Asking {
+    pub(crate) fn new(alloc: Global) -> Asking
+        ensures { result ≡ [] }
+    {
         Asking {
             asked: VecDeque::new(alloc),
             counting: VecDeque::new(alloc),
@@ -79,15 +98,18 @@ impl Asking {
         }
     }
 
-    /// A client's word asks this, of a log of so many records; whether there was memory.
-    pub(crate) fn want(&mut self, who: ClientId, asks: Asks, len: u32) -> bool {
-        match asks {
-            Asks::Of(question) => self.asked.push_back(Asked { who, question }).is_ok(),
-            Asks::Digest => self
-                .counting
-                .push_back(Counting { who, least: len })
-                .is_ok(),
-        }
+    /// A client's word asks this; whether there was memory.
+    pub(crate) fn want(&mut self, who: ClientId, question: Question) -> bool
+        ensures { self.new ≡ self.old }
+    {
+        self.asked.push_back(Asked { who, question }).is_ok()
+    }
+
+    /// A client's word asks for the digest of a log of so many records; whether there was memory.
+    pub(crate) fn want_digest(&mut self, who: ClientId, least: u32) -> bool
+        ensures { self.new ≡ self.old }
+    {
+        self.counting.push_back(Counting { who, least }).is_ok()
     }
 
     /// Whether as much was told as may wait until it may be told on.
@@ -96,7 +118,9 @@ impl Asking {
     }
 
     /// What was asked first, if there is room for what is told to it.
-    pub(crate) fn next_asked(&mut self) -> Option<Asked> {
+    pub(crate) fn next_asked(&mut self) -> Option<Asked>
+        ensures { self.new ≡ self.old }
+    {
         if self.is_full() {
             return None;
         }
@@ -112,7 +136,9 @@ impl Asking {
     }
 
     /// Who asked first for the digest, if so many records are enough and there is room for what is told.
-    pub(crate) fn next_counted(&mut self, counted: u32) -> Option<ClientId> {
+    pub(crate) fn next_counted(&mut self, counted: u32) -> Option<ClientId>
+        ensures { self.new ≡ self.old }
+    {
         if self.is_full() || self.wants_more(counted) {
             return None;
         }
@@ -120,13 +146,19 @@ impl Asking {
         Some(first.who)
     }
 
-    /// What was told of a log of this length waits; whether there was memory.
-    pub(crate) fn keep(&mut self, who: ClientId, len: u32, text: Vec<u8>) -> bool {
-        self.told.push_back(Waiting { who, len, text }).is_ok()
+    /// What was told waits, behind the others; whether there was memory.
+    pub(crate) fn keep(&mut self, waiting: Waiting) -> bool
+        ensures kept { IsTrue result → self.new ≡ self.old ++ waiting ∷ [] }
+        ensures none { result ≡ false → self.new ≡ self.old }
+    {
+        self.told.push_back(waiting).is_ok()
     }
 
     /// What was told first, if it is of a log of no more records than so many.
-    pub(crate) fn next_within(&mut self, limit: u32) -> Option<Waiting> {
+    pub(crate) fn next_within(&mut self, limit: u32) -> Option<Waiting>
+        ensures some { IfSome result (λ first. (self.old ≡ first ∷ self.new) × (first.len ≤ limit)) }
+        ensures none { IfNone result (self.new ≡ self.old) }
+    {
         let first = self.told.front()?;
         if first.len > limit {
             return None;

@@ -289,6 +289,13 @@ impl Client {
         self.wire.answer(service);
     }
 
+    /// What it may send.
+    pub(crate) fn rights(&self) -> Rights
+        ensures { result ≡ self.now.rights }
+    {
+        self.rights
+    }
+
     /// Speaks WebSocket from now on, with these rights. Where anything was said or told before it is lost.
     pub(crate) fn upgrade(&mut self, rights: Rights)
         ensures { MayUpgrade rights self.old self.new }

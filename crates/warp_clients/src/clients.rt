@@ -5,7 +5,7 @@ ghost use Rattle.warp_replica.specs.Answered.{facts_of};
 ghost use Rattle.warp_room.specs.Steps.{Works};
 ghost use Rattle.warp_watch.specs.declared.client_id.ClientId.{ClientId};
 ghost use Rattle.warp_clients.specs.Client.{ClientState, Ended, HasLine, Heard, IsMe, Lost, Pushed, Wrote, bytes_for};
-ghost use Rattle.warp_clients.specs.Crowd.{IsAway, IsOutputOf, IsThere};
+ghost use Rattle.warp_clients.specs.Crowd.{IsAway, IsOutputOf, IsThere, MayTell};
 ghost use Rattle.warp_clients.specs.Steps.{SomeRun, StepDoes};
 ghost use Rattle.warp_clients.specs.Steps as steps;
 
@@ -19,7 +19,7 @@ use warp_hub::{Facts, Rights};
 use warp_line::Timeline;
 use warp_record::{Line, Look};
 use warp_room::{AnsweredLine, Room, Worked};
-use warp_watch::ClientId;
+use warp_watch::{ClientId, Question};
 use warp_web::{Answers, Gone};
 
 /// How many lines of a client are heard in a round.
@@ -72,7 +72,7 @@ impl<T: Timeline> Clients<T> {
     pub fn new(alloc: Global, keys: RandomState, room: Room<T>, facts: Facts) -> Clients<T>
         ensures { result ≡ record {
           room = room;
-          crowd = record { clients = []; common = record { facts = facts; failing = false; limit = 0 } };
+          crowd = record { clients = []; common = record { facts = facts; failing = false; limit = 0; clock = None } };
         } }
     {
         Clients {
@@ -236,7 +236,7 @@ impl<T: Timeline> Clients<T> {
     }
 
     /// A client's connection is lost, and is to be closed.
-    fn give_up(&mut self, who: ClientId)
+    pub(crate) fn give_up(&mut self, who: ClientId)
         ensures { SomeRun (facts_of T.settled T.refused T.floor T.SLACK) self.old self.new }
     {
         self.lose(who);
@@ -313,20 +313,48 @@ impl<T: Timeline> Clients<T> {
         self.crowd.speak_look(who, &reply);
     }
 
-    /// A client's word asks this. Without memory its connection is lost.
+    /// A client's word asks this.
     fn want(&mut self, who: ClientId, asks: Asks)
         ensures { SomeRun (facts_of T.settled T.refused T.floor T.SLACK) self.old self.new }
     {
-        if !self.wants_to_ask(who, asks) {
+        match asks {
+            Asks::Of(question) => self.want_answer(who, question),
+            Asks::Digest => self.want_digest(who),
+            Asks::Keeps => self.tell_keeps(who),
+            Asks::Send(sent) => self.send_word(who, &sent),
+        }
+    }
+
+    /// A client's word asks this of the replica, where all is executed. Without memory its connection is lost.
+    fn want_answer(&mut self, who: ClientId, question: Question)
+        ensures { SomeRun (facts_of T.settled T.refused T.floor T.SLACK) self.old self.new }
+    {
+        if !self.wants_answer(who, question) {
             self.give_up(who);
         }
     }
 
-    /// A client's word asks this; whether there was memory.
-    fn wants_to_ask(&mut self, who: ClientId, asks: Asks) -> bool
+    /// A client's word asks this of the replica; whether there was memory.
+    fn wants_answer(&mut self, who: ClientId, question: Question) -> bool
         ensures { self.new ≡ self.old }
     {
-        self.asking.want(who, asks, self.room.len())
+        self.asking.want(who, question)
+    }
+
+    /// A client's word asks for the digest. Without memory its connection is lost.
+    fn want_digest(&mut self, who: ClientId)
+        ensures { SomeRun (facts_of T.settled T.refused T.floor T.SLACK) self.old self.new }
+    {
+        if !self.wants_digest(who) {
+            self.give_up(who);
+        }
+    }
+
+    /// A client's word asks for the digest; whether there was memory.
+    fn wants_digest(&mut self, who: ClientId) -> bool
+        ensures { self.new ≡ self.old }
+    {
+        self.asking.want_digest(who, self.room.len())
     }
 
     /// There is something to do for a client.
@@ -428,7 +456,11 @@ impl<T: Timeline> Clients<T> {
         ensures { SomeRun (facts_of T.settled T.refused T.floor T.SLACK) self.old self.new }
     {
         match self.room.tell(self.alloc, asked.question) {
-            Ok(told) => self.asking.keep(asked.who, told.len, told.text),
+            Ok(told) => self.asking.keep(Waiting {
+                who: asked.who,
+                len: told.len,
+                text: told.text,
+            }),
             Err(_) => false,
         }
     }
@@ -437,11 +469,11 @@ impl<T: Timeline> Clients<T> {
     fn tell_words(&mut self)
         ensures { SomeRun (facts_of T.settled T.refused T.floor T.SLACK) self.old self.new }
     {
-        for _ in 0..MOST_TOLD {
+        for _ in 0..MOST_HANDED {
             let Some(next) = self.next_told() else {
                 return;
             };
-            self.speak_told(next.who, next.len, &next.text);
+            self.speak_told(&next);
             self.note(next.who);
         }
     }
@@ -453,11 +485,14 @@ impl<T: Timeline> Clients<T> {
         self.asking.next_within(self.crowd.limit())
     }
 
-    /// A client's word is answered by this text, which tells of a log of this length, if that may be told.
-    pub(crate) fn speak_told(&mut self, who: ClientId, len: u32, text: &[u8])
-        ensures { SomeRun (facts_of T.settled T.refused T.floor T.SLACK) self.old self.new }
+    /// What was told to a client's word answers it, if of so long a log may be told.
+    pub(crate) fn speak_told(&mut self, told: &Waiting)
+        ensures tells { MayTell self.old.crowd.common told.now.len told.now.text.items told.now.who
+            self.old.crowd.clients self.new.crowd.clients }
+        ensures room { self.new.room ≡ self.old.room }
+        ensures run { SomeRun (facts_of T.settled T.refused T.floor T.SLACK) self.old self.new }
     {
-        self.crowd.speak_told(who, len, text);
+        self.crowd.speak_told(told.who, told.len, &told.text);
     }
 
     /// Whole lines that tell of a log of this length are pushed to a client between its answers; whether they were. They are not

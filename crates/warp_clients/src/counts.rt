@@ -2,15 +2,11 @@
 
 use crate::client::Listened;
 use crate::refusals::{Refusals, number_in};
-use crate::saying::Saying;
 use warp_record::{Refusal, Reply};
 use warp_room::{LineAnswer, Outcome};
 
 /// The number of the refusal of what may not be sent, and of a token that is none.
 const NOT_ALLOWED: usize = 13;
-
-/// The number of the refusal of records while the journal can't be written.
-const NOT_DURABLE: usize = 14;
 
 /// The number of the refusal of an announcement for a kept origin.
 const KEPT: usize = 15;
@@ -94,23 +90,13 @@ impl Counts {
         }
     }
 
-    /// A word was answered by this text, which tells of a log of this length.
+    /// What was answered here has this text, which tells of a log of this length.
     pub(crate) fn told(&mut self, len: u32, text: &[u8]) {
         self.see(len);
         self.spoke();
         let number = number_in(text);
         if number > 0 {
             self.refusals.note(number);
-        }
-    }
-
-    /// This is answered before the room.
-    pub(crate) fn answered(&mut self, said: &Saying) {
-        match *said {
-            Saying::Refuse(refusal) => self.refused_by(refusal),
-            Saying::NotAllowed => self.refused(NOT_ALLOWED),
-            Saying::NotDurable => self.refused(NOT_DURABLE),
-            Saying::Line(_) | Saying::Word(_) | Saying::Look(_) | Saying::Token(_) => self.spoke(),
         }
     }
 

@@ -11,6 +11,7 @@ use crate::client::{Client, Listened};
 use crate::counts::{Counts, NO_COUNTS};
 use crate::places::Places;
 use crate::saying::{Saying, first_rights};
+use crate::sending::ClockTold;
 use crate::texts::{NOT_ALLOWED, spell_outcome, spell_own, spell_reply, spell_rights};
 use crate::watching::{Watched, is_watch};
 use std::alloc::{AllocError, Global};
@@ -41,8 +42,10 @@ pub(crate) struct Crowd {
     keys: RandomState,
     pub(crate) facts: Facts,
     pub(crate) places: Places,
-    is_failing: bool,
+    pub(crate) is_failing: bool,
     pub(crate) limit: u32,
+    /// What the host's clock says, if it has one.
+    pub(crate) clock: Option<ClockTold>,
     /// How many are there.
     count: u32,
     /// Those for which there is something to do.
@@ -61,13 +64,13 @@ impl Model for Crowd {
     ghost Value = { CrowdState };
 
     ghost view = { λ c.
-        record { clients = c.places; common = record { facts = c.facts; failing = c.is_failing; limit = c.limit } } };
+        record { clients = c.places; common = record { facts = c.facts; failing = c.is_failing; limit = c.limit; clock = c.clock } } };
 }
 
 impl Crowd {
     /// Nobody is there, and nothing may be told.
     pub(crate) fn new(alloc: Global, keys: RandomState, facts: Facts) -> Crowd
-        ensures { result ≡ record { clients = []; common = record { facts = facts; failing = false; limit = 0 } } }
+        ensures { result ≡ record { clients = []; common = record { facts = facts; failing = false; limit = 0; clock = None } } }
     {
         Crowd {
             alloc,
@@ -76,6 +79,7 @@ impl Crowd {
             places: Places::new(alloc),
             is_failing: false,
             limit: 0,
+            clock: None,
             count: 0,
             changed: VecDeque::new(alloc),
             text: Vec::new(alloc),
@@ -304,12 +308,13 @@ impl Crowd {
         requires { IsThere who (IsNext said.now) self.old.clients }
         ensures { Moves who self.old self.new }
     {
-        if !spell_own(&mut self.text, &self.facts, said) {
+        if !spell_own(&mut self.text, &self.facts, self.clock, said) {
             self.places.lose(who);
             return;
         }
-        self.counts.answered(said);
-        self.places.speak(who, &self.facts, said, &self.text);
+        self.counts.told(0, &self.text);
+        self.places
+            .speak(who, &self.facts, self.clock, said, &self.text);
     }
 
     /// Refuses a client's token.

@@ -4,7 +4,7 @@ ghost use Rattle.warp_room.specs.Digested.{TellsDigest};
 ghost use Rattle.warp_replica.specs.Answered.{facts_of};
 ghost use Rattle.warp_clients.specs.Steps.{SomeRun};
 
-use crate::asking::MOST_TOLD;
+use crate::asking::{MOST_TOLD, Waiting};
 use crate::clients::{Clients, NO_MEMORY};
 use warp_line::Timeline;
 use warp_room::Digested;
@@ -90,7 +90,11 @@ impl<T: Timeline> Clients<T> {
         ensures { self.new ≡ self.old }
     {
         match self.room.digest(self.alloc) {
-            Ok(told) => self.asking.keep(who, told.len, told.text),
+            Ok(told) => self.asking.keep(Waiting {
+                who,
+                len: told.len,
+                text: told.text,
+            }),
             Err(_) => false,
         }
     }
@@ -116,7 +120,14 @@ impl<T: Timeline> Clients<T> {
     pub(crate) fn refuse_word(&mut self, who: ClientId)
         ensures { SomeRun (facts_of T.settled T.refused T.floor T.SLACK) self.old self.new }
     {
-        self.speak_told(who, 0, NO_MEMORY);
+        self.speak_refusal(who);
         self.note(who);
+    }
+
+    /// A client's word is answered by the refusal for want of memory.
+    fn speak_refusal(&mut self, who: ClientId)
+        ensures { SomeRun (facts_of T.settled T.refused T.floor T.SLACK) self.old self.new }
+    {
+        self.crowd.speak_told(who, 0, NO_MEMORY);
     }
 }

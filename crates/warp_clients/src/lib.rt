@@ -19,6 +19,7 @@ mod own;
 mod places;
 mod refusals;
 mod saying;
+mod sending;
 mod telling;
 #[cfg(test)]
 mod tests;
@@ -31,6 +32,7 @@ pub use clients::{Clients, Refused, Visits};
 pub use counts::Counts;
 pub use law::what_is_told;
 pub use refusals::{MOST_REFUSALS, Refusals};
+pub use sending::ClockTold;
 pub use warp_room::{Digested, Input, Keeping, Progress, Sent, Unsent, Untold, Worked};
 pub use warp_watch::ClientId;
 pub use warp_web::{Answers, Gone, Kind};

@@ -11,6 +11,7 @@ ghost use Rattle.warp_clients.specs.declared.saying.Saying.TheVariants.{Token};
 
 use crate::client::{Client, Listened};
 use crate::saying::Saying;
+use crate::sending::ClockTold;
 use std::alloc::{AllocError, Global};
 use std::hash::RandomState;
 use std::marker::Model;
@@ -198,12 +199,19 @@ impl Places {
     }
 
     /// What the client said is answered by this text.
-    pub(crate) fn speak(&mut self, who: ClientId, facts: &Facts, said: &Saying, text: &[u8])
+    pub(crate) fn speak(
+        &mut self,
+        who: ClientId,
+        facts: &Facts,
+        clock: Option<ClockTold>,
+        said: &Saying,
+        text: &[u8],
+    )
         requires next { IsThere who (IsNext said.now) self.old }
-        requires own { IsOwn facts.now said.now text.now }
-        ensures { Becomes who (MaySpeak facts.now said.now text.now) self.old self.new }
+        requires own { IsOwn facts.now clock said.now text.now }
+        ensures { Becomes who (MaySpeak facts.now clock said.now text.now) self.old self.new }
     {
-        self.clients[who.key as usize].speak(facts, said, text);
+        self.clients[who.key as usize].speak(facts, clock, said, text);
     }
 
     /// The client's token is refused by this text.

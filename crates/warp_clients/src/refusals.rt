@@ -1,5 +1,5 @@
 //! How many refusals were told, by their numbers.
-ghost use Rattle.std.specs.Prelude.{◌≡◌, slice_index_or};
+ghost use Rattle.std.specs.Prelude.{◌≡◌, ◌≤◌, slice_index_or};
 ghost use Rattle.warp_clients.specs.Refusals.{one_more};
 
 /// Refusals have numbers below this one.
@@ -42,10 +42,22 @@ impl Refusals {
     }
 }
 
-/// The number of a refusal with one digit, if that is what this line is: `refused K` and a line feed; else 0, which none has.
+/// The number of a refusal, if that is what this line is: `refused K` and a line feed, K of one digit or two; else 0 or a number
+/// that none has.
 pub(crate) fn number_in(line: &[u8]) -> usize {
-    if line.len() != 10 || !line.starts_with(b"refused ") || line[8] < b'0' {
+    let Some(rest) = line.strip_prefix(b"refused ") else {
         return 0;
+    };
+    match rest {
+        [digit, b'\n'] => digit_of(*digit),
+        [tens, digit, b'\n'] => digit_of(*tens) * 10 + digit_of(*digit),
+        _ => 0,
     }
-    usize::from(line[8] - b'0')
+}
+
+/// The digit that the byte spells; where it spells none a number above 9.
+fn digit_of(byte: u8) -> usize
+    ensures { result ≤ 255 }
+{
+    usize::from(byte.wrapping_sub(b'0'))
 }

@@ -9,6 +9,7 @@ ghost use Rattle.warp_clients.specs.declared.saying.Saying.TheVariants.{Token};
 
 use crate::client::{Client, MOST_CARRIED, MOST_WRONG};
 use crate::saying::Saying;
+use crate::sending::ClockTold;
 use warp_hub::{Facts, Rights};
 use warp_room::AnsweredLine;
 use websocket::protocol::CloseCode;
@@ -59,10 +60,16 @@ impl Client {
     }
 
     /// What it said is answered by this text. Without memory it is over.
-    pub(crate) fn speak(&mut self, facts: &Facts, said: &Saying, text: &[u8])
+    pub(crate) fn speak(
+        &mut self,
+        facts: &Facts,
+        clock: Option<ClockTold>,
+        said: &Saying,
+        text: &[u8],
+    )
         requires next { IsNext said.now self.old }
-        requires own { IsOwn facts.now said.now text.now }
-        ensures { MaySpeak facts.now said.now text.now self.old self.new }
+        requires own { IsOwn facts.now clock said.now text.now }
+        ensures { MaySpeak facts.now clock said.now text.now self.old self.new }
     {
         if self.tell(text) {
             self.slot = None;

@@ -1,6 +1,6 @@
 //! What no clause says of clients: what is written to them on worked rows of the program `twice`.
 
-use crate::{Answers, ClientId, Clients, Visits};
+use crate::{Answers, ClientId, Clients, ClockTold, Keeping, Visits};
 use bytes::Bytes;
 use http::{HeaderName, HeaderValue, Request, StatusCode};
 use http_server::{Response, Service};
@@ -12,7 +12,7 @@ use warp_line::Plain;
 use warp_replica::Replica;
 use warp_room::Room;
 use warp_step::Program;
-use warp_tag::Form;
+use warp_tag::{Form, Tag};
 
 /// Upgrades each request.
 #[derive(Drop)]
@@ -73,6 +73,12 @@ enum Act {
     Leaves(usize),
     /// Records are refused from now on, or not.
     Fails(bool),
+    /// The host's clock says this tick, these milliseconds and these ticks a second.
+    Clock(u64, u64, u32),
+    /// The tags before this time are closed.
+    Closes(u64),
+    /// So many refusals of this number were told.
+    Refused(usize, u64),
     /// Whole lines that tell of so long a log are pushed to this client, or not.
     Pushes(usize, u32, bool),
     /// This was written to this client behind what was written before.
@@ -83,8 +89,12 @@ enum Act {
     Over(usize),
 }
 
-/// Clients of the program `twice`, with a token that may send for origin 0, if any.
-fn clients(rt: &HostRuntime, tokens: Option<&[u8]>) -> Result<Clients<Plain>, Fail> {
+/// Clients of the program `twice` in a room that keeps these origins, with a token that may send for origin 0, if any.
+fn clients(
+    rt: &HostRuntime,
+    keeping: Keeping,
+    tokens: Option<&[u8]>,
+) -> Result<Clients<Plain>, Fail> {
     let alloc = rt.alloc();
     let program = Program::twice(alloc).map_err(|_| "memory")?;
     let replica = Replica::<Plain>::new(alloc, program).map_err(|_| "memory")?;
@@ -97,9 +107,11 @@ fn clients(rt: &HostRuntime, tokens: Option<&[u8]>) -> Result<Clients<Plain>, Fa
         program: Vec::from_slice(alloc, b"program 1 x")?,
         names: Vec::from_slice(alloc, b"names {}")?,
         most_clients: 8,
+        most_inputs: 2,
         tokens,
     };
-    let room = Room::new(alloc, replica, 256, 1_024);
+    let mut room = Room::new(alloc, replica, 256, 1_024);
+    room.keep(keeping).map_err(|_| "not to be kept")?;
     Ok(Clients::new(alloc, RandomState::new(rt)?, room, facts))
 }
 
@@ -236,6 +248,19 @@ fn do_act(
             clients.refuse_records(is_failing);
             Ok(())
         }
+        Act::Clock(tick, milliseconds, hertz) => {
+            clients.set_clock(Some(ClockTold {
+                tick,
+                milliseconds,
+                hertz,
+            }));
+            Ok(())
+        }
+        Act::Closes(time) => {
+            let tag = Tag::new(time, 0).ok_or("no such tag")?;
+            same(clients.close(tag).is_ok())
+        }
+        Act::Refused(number, count) => same(clients.counts().refusals.of(number) == count),
         Act::Pushes(at, len, wanted) => {
             let who = who_at(outputs, at)?;
             same(clients.push(who, len, b"* log 1 event 0 5 0 0 3\n") == wanted)
@@ -255,9 +280,20 @@ fn do_act(
     }
 }
 
-/// Does these steps, with so many clients.
+/// Does these steps, with so many clients of a room that keeps nothing.
 fn play(rt: &HostRuntime, tokens: Option<&[u8]>, count: usize, acts: &[Act]) -> Result<(), Fail> {
-    let mut clients = clients(rt, tokens)?;
+    play_kept(rt, Keeping::Nothing, tokens, count, acts)
+}
+
+/// Does these steps, with so many clients of a room that keeps these origins.
+fn play_kept(
+    rt: &HostRuntime,
+    keeping: Keeping,
+    tokens: Option<&[u8]>,
+    count: usize,
+    acts: &[Act],
+) -> Result<(), Fail> {
+    let mut clients = clients(rt, keeping, tokens)?;
     let mut outputs = Vec::new(rt.alloc());
     for _ in 0..count {
         let who = clients.come().map_err(|_| "no place")?;
@@ -420,4 +456,78 @@ const CEASES: &[Act] = &[
 #[test]
 fn ceases_behind_its_lines(rt: HostRuntime) -> Result<(), Fail> {
     play(&rt, None, 1, CEASES)
+}
+
+/// Inputs that the host gives their tags, where it keeps origin 0 and a tick takes two: told once of so long a log may be told, in
+/// their order with other answers; at the tick that is asked for, or that the clock says; and what is refused.
+const SENDS: &[Act] = &[
+    Act::Says(0, b"keeps\nclock\nsend 0 3\nprogram\n"),
+    Act::Wrote(0, b"keeps 0\nrefused 1\n"),
+    Act::Works(0),
+    Act::Wrote(0, b""),
+    Act::Works(1),
+    Act::Wrote(0, b"sent 1 0 0\nprogram 1 x\n"),
+    Act::Clock(7, 233, 30),
+    Act::Says(0, b"clock\nsend 0 -4\nsend 0 5\nsend 0 6\nsend 0 1 9\n"),
+    Act::Wrote(0, b"clock 7 233 30\n"),
+    Act::Works(3),
+    Act::Wrote(0, b"sent 2 7 0\nsent 3 7 1\nrefused 18\n"),
+    Act::Works(9),
+    Act::Wrote(0, b"sent 4 9 0\n"),
+    Act::Says(
+        0,
+        b"send 1 3\nsend 9 3\nsend 256 3\nsend 0 3 08\nsend 0 +3\nsend 0 3 15625000\n",
+    ),
+    Act::Wrote(
+        0,
+        b"refused 15\nrefused 4\nrefused 1\nrefused 1\nrefused 1\nrefused 3\n",
+    ),
+    Act::Refused(18, 1),
+    Act::Refused(15, 1),
+    Act::Refused(1, 4),
+    Act::Fails(true),
+    Act::Says(0, b"send 0 1\n"),
+    Act::Wrote(0, b"refused 14\n"),
+    Act::Fails(false),
+    Act::Closes(12),
+    Act::Says(0, b"send 0 1 3\nlog 6\nevent 1 20 0 1 4\nsend 0 2 20\n"),
+    Act::Works(9),
+    Act::Wrote(
+        0,
+        b"sent 6 12 0\nlog 6 event 0 12 0 0 1\ntaken 7\nsent 8 20 0\n",
+    ),
+];
+
+#[test]
+fn inputs_get_their_tags(rt: HostRuntime) -> Result<(), Fail> {
+    let keeping = Keeping::of(&[0]).ok_or("no origin")?;
+    play_kept(&rt, keeping, None, 1, SENDS)
+}
+
+/// With tokens an input is sent by who may send for its origin alone, whoever keeps it; one that waits to be told holds up nobody
+/// who is refused.
+const SENDS_BY_RIGHTS: &[Act] = &[
+    Act::Enters,
+    Act::Says(0, b"send 0 3\ntoken a\nkeeps\nsend 1 3\nsend 0 3\n"),
+    Act::Wrote(0, b"refused 13\nmay 0\nkeeps all\nrefused 13\n"),
+    Act::Says(1, b"keeps\nsend 0 3\nclock\n"),
+    Act::Wrote(1, b"keeps all\nrefused 13\nrefused 1\n"),
+    Act::Works(1),
+    Act::Wrote(0, b"sent 1 0 0\n"),
+];
+
+#[test]
+fn inputs_are_sent_by_rights(rt: HostRuntime) -> Result<(), Fail> {
+    play_kept(&rt, Keeping::All, Some(b"a 0\n"), 1, SENDS_BY_RIGHTS)
+}
+
+/// A host that keeps nothing says so, and takes no input without a tag.
+const NOTHING_KEPT: &[Act] = &[
+    Act::Says(0, b"keeps\nsend 0 3\n"),
+    Act::Wrote(0, b"keeps\nrefused 15\n"),
+];
+
+#[test]
+fn nothing_is_kept(rt: HostRuntime) -> Result<(), Fail> {
+    play(&rt, None, 1, NOTHING_KEPT)
 }

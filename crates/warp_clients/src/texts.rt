@@ -5,6 +5,7 @@ ghost use Rattle.warp_room.specs.Gate.{outcome_line};
 ghost use Rattle.warp_clients.specs.Sayings.{IsOwn, refused_13};
 
 use crate::saying::Saying;
+use crate::sending::{ClockTold, spell_clock};
 use itoa::Buffer;
 use std::alloc::AllocError;
 use warp_hub::{Facts, MOST_ORIGINS, Rights, Word};
@@ -15,7 +16,7 @@ use warp_room::Outcome;
 pub(crate) const NOT_ALLOWED: &[u8] = b"refused 13\n";
 
 /// The answer to a record while the journal can't be written.
-const NOT_DURABLE: &[u8] = b"refused 14\n";
+pub(crate) const NOT_DURABLE: &[u8] = b"refused 14\n";
 
 /// The answer to an announcement for an origin that the host keeps.
 const KEPT: &[u8] = b"refused 15\n";
@@ -51,7 +52,7 @@ pub(crate) fn spell_outcome(text: &mut Vec<u8>, outcome: &Outcome) -> bool
 }
 
 /// Puts these bytes in the place of what is there; whether there was memory.
-fn spell(text: &mut Vec<u8>, bytes: &[u8]) -> bool
+pub(crate) fn spell(text: &mut Vec<u8>, bytes: &[u8]) -> bool
     ensures { IsTrue result → text.new.items ≡ bytes.now }
 {
     text.clear();
@@ -70,13 +71,19 @@ fn spell_line(text: &mut Vec<u8>, bytes: &[u8]) -> bool
 }
 
 /// Puts the answer that is given here in the place of what is there; whether one is, and there was memory.
-pub(crate) fn spell_own(text: &mut Vec<u8>, facts: &Facts, said: &Saying) -> bool
-    ensures { IsTrue result → IsOwn facts.now said.now text.new.items }
+pub(crate) fn spell_own(
+    text: &mut Vec<u8>,
+    facts: &Facts,
+    clock: Option<ClockTold>,
+    said: &Saying,
+) -> bool
+    ensures { IsTrue result → IsOwn facts.now clock said.now text.new.items }
 {
     match *said {
         Saying::Line(_) => false,
         Saying::Word(Word::Program) => spell_line(text, &facts.program),
         Saying::Word(Word::Names) => spell_line(text, &facts.names),
+        Saying::Word(Word::Clock) => spell_clock(text, clock),
         Saying::Word(_) => false,
         Saying::Look(_) => false,
         Saying::Token(_) => false,

@@ -1,10 +1,11 @@
 //! The words that begin and end a watch: they are answered in their order, and told to who pushes.
-ghost use Rattle.std.specs.Prelude.{◌≡◌, ◌≤◌, ℕ, IfNone, IfSome, IsTrue, List};
+ghost use Rattle.std.specs.Prelude.{◌≡◌, ◌≤◌, ℕ, IfNone, IfSome, IsTrue, List, Option};
 ghost use Rattle.warp_hub.specs.declared.commons.Facts.{Facts};
 ghost use Rattle.warp_clients.specs.Client.{IsNext};
 ghost use Rattle.warp_clients.specs.Crowd.{IsThere, Moves};
 ghost use Rattle.warp_clients.specs.Sayings.{IsOwn, IsWatching};
 ghost use Rattle.warp_clients.specs.declared.saying.Saying.TheVariants as saying;
+ghost use Rattle.warp_clients.specs.declared.sending.ClockTold.{ClockTold};
 
 use crate::client::Client;
 use crate::clients::Clients;
@@ -26,7 +27,8 @@ pub struct Watched {
 
 /// Whether a word begins or ends a watch: its answer is how many things its client watches then.
 pub(crate) fn is_watch(word: &Word) -> bool
-    ensures { IsTrue result → (f : Facts) (text : List ℕ) → IsWatching text → IsOwn f (saying.Word word.now) text }
+    ensures { IsTrue result → (f : Facts) (clock : Option ClockTold) (text : List ℕ) → IsWatching text →
+        IsOwn f clock (saying.Word word.now) text }
 {
     match *word {
         Word::Watch(_) => true,
@@ -37,6 +39,9 @@ pub(crate) fn is_watch(word: &Word) -> bool
         | Word::Cells(..)
         | Word::Releases
         | Word::Digest
+        | Word::Keeps
+        | Word::Clock
+        | Word::Send(_)
         | Word::Release(_)
         | Word::Counts(_)
         | Word::Reached(_) => false,
@@ -91,6 +96,9 @@ impl Subjects {
             | Word::Cells(..)
             | Word::Releases
             | Word::Digest
+            | Word::Keeps
+            | Word::Clock
+            | Word::Send(_)
             | Word::Release(_)
             | Word::Counts(_)
             | Word::Reached(_) => {}
@@ -165,7 +173,8 @@ impl Crowd {
     /// lost.
     pub(crate) fn watch(&mut self, who: ClientId, said: &Saying, word: &Word)
         requires next { IsThere who (IsNext said.now) self.old.clients }
-        requires own { (text : List ℕ) → IsWatching text → IsOwn self.old.common.facts said.now text }
+        requires own { (text : List ℕ) → IsWatching text →
+            IsOwn self.old.common.facts self.old.common.clock said.now text }
         ensures { Moves who self.old self.new }
     {
         let Some(count) = self.note_watch(who, word) else {
@@ -192,7 +201,8 @@ impl Crowd {
     fn speak_watching(&mut self, who: ClientId, said: &Saying, count: u8)
         requires few { count ≤ 7 }
         requires next { IsThere who (IsNext said.now) self.old.clients }
-        requires own { (text : List ℕ) → IsWatching text → IsOwn self.old.common.facts said.now text }
+        requires own { (text : List ℕ) → IsWatching text →
+            IsOwn self.old.common.facts self.old.common.clock said.now text }
         ensures { Moves who self.old self.new }
     {
         if !spell_watching(&mut self.text, count) {
@@ -200,7 +210,8 @@ impl Crowd {
             return;
         }
         self.counts.spoke();
-        self.places.speak(who, &self.facts, said, &self.text);
+        self.places
+            .speak(who, &self.facts, self.clock, said, &self.text);
     }
 }
 

@@ -4,12 +4,13 @@ ghost use Rattle.warp_record.specs.declared.line.Look.{Look};
 ghost use Rattle.warp_clients.specs.Client.{ClientState, Ends, IsMe, IsNext, MayWrite, Pushes};
 ghost use Rattle.warp_clients.specs.Sayings.{IsOwn};
 ghost use Rattle.warp_clients.specs.declared.saying.Saying.TheVariants as saying;
-ghost use Rattle.warp_clients.specs.Crowd.{Becomes, IsAway, IsOutputOf, IsThere, MayDo, Moves};
+ghost use Rattle.warp_clients.specs.Crowd.{Becomes, IsAway, IsOutputOf, IsThere, MayDo, MayTell, Moves};
 
 use crate::asking::asks_of;
 use crate::crowd::Crowd;
 use crate::saying::Saying;
 use crate::texts::spell_reply;
+use warp_hub::Word;
 use warp_record::Reply;
 use warp_watch::ClientId;
 
@@ -37,32 +38,36 @@ impl Crowd {
             return;
         }
         self.counts.spoke();
-        self.places.speak(who, &self.facts, said, &self.text);
+        self.places
+            .speak(who, &self.facts, self.clock, said, &self.text);
     }
 
     /// A client's word is answered by this text, which tells of a log of this length, if that may be told.
     pub(crate) fn speak_told(&mut self, who: ClientId, len: u32, text: &[u8])
-        ensures { Moves who self.old self.new }
+        ensures tells { MayTell self.old.common len text.now who self.old.clients self.new.clients }
+        ensures common { self.new.common ≡ self.old.common }
     {
         let Some(said) = self.waiting(who) else {
             return;
         };
         if let Saying::Word(word) = said {
             if len <= self.limit && asks_of(&word).is_some() {
-                self.speak_word(who, &said, len, text);
+                self.speak_word(who, &word, len, text);
             }
         }
     }
 
     /// A client's word is answered by this text, which tells of a log of this length.
-    fn speak_word(&mut self, who: ClientId, said: &Saying, len: u32, text: &[u8])
-        requires next { IsThere who (IsNext said.now) self.old.clients }
-        requires own { IsOwn self.old.common.facts said.now text.now }
+    fn speak_word(&mut self, who: ClientId, word: &Word, len: u32, text: &[u8])
+        requires next { IsThere who (IsNext (saying.Word word.now)) self.old.clients }
+        requires own { IsOwn self.old.common.facts self.old.common.clock (saying.Word word.now) text.now }
         requires most { len ≤ self.old.common.limit }
-        ensures { Moves who self.old self.new }
+        ensures tells { MayTell self.old.common len text.now who self.old.clients self.new.clients }
+        ensures common { self.new.common ≡ self.old.common }
     {
         self.counts.told(len, text);
-        self.places.speak(who, &self.facts, said, text);
+        self.places
+            .speak(who, &self.facts, self.clock, &Saying::Word(*word), text);
     }
 
     /// Whole lines that tell of a log of this length are pushed to a client, if that may be told; whether they were.

@@ -44,6 +44,9 @@ pub enum HostFault {
     /// The journal could not be written.
     #[error("the journal can't be written")]
     Journal,
+    /// The log is one over which this origin can't be kept.
+    #[error("origin {0} can't be kept")]
+    NotKept(u32),
 }
 
 impl From<AllocError> for HostFault {

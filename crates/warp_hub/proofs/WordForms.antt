@@ -1,11 +1,12 @@
--- Which words have two, three or four words, and what these are.
-use Rattle.std.proofs.Common.{◌≡◌, ℕ, ◌<◌, ◌≤◌, true, List, [], ◌∷◌, length, get_or, drop, codes, decimal, refl, sym, ap, ◌∙◌, arith}
+-- Which words have two, three or four words, and what these are; and how an input is spelled that is sent.
+use Rattle.std.proofs.Common.{◌≡◌, ℕ, ℤ, ◌<◌, ◌≤◌, true, List, [], ◌∷◌, Option, Some, None, length, get_or, drop, codes, decimal, refl, sym, ap, ◌∙◌, arith}
+use Rattle.std.specs.Fmt.{signed_decimal}
 use Rattle.std.specs.List.{slice_split}
 use Rattle.std.proofs.lemmas.Fmt.{decimal_injective}
 use Rattle.warp_record.specs.Number.{is_space}
-use Rattle.warp_record.proofs.PlainWords.{are_plain, is_plain, plain_decimal, words_of_text}
+use Rattle.warp_record.proofs.PlainWords.{are_plain, is_plain, plain_decimal, plain_signed, words_of_text}
 use Rattle.warp_tag.specs.Limits.{last_number}
-use Rattle.warp_hub.specs.Words.{IsRange, IsWatch, IsWord, subject_name, watch_words, word_spelling, word_words}
+use Rattle.warp_hub.specs.Words.{IsEventOf, IsRange, IsSending, IsWatch, IsWord, asked_words, subject_name, watch_words, word_spelling, word_words}
 use Rattle.warp_hub.specs.declared.words.Subject.{Subject}
 use Rattle.warp_hub.specs.declared.words.Subject.TheVariants as subject
 use Rattle.warp_hub.specs.declared.words.Watch.{Watch}
@@ -41,6 +42,9 @@ two_of key text word.Vars fits are = absurd (omega (arith, count _ _ are))
 two_of key text (word.Cells from many) fits are = absurd (omega (arith, count _ _ are))
 two_of key text word.Releases fits are = absurd (omega (arith, count _ _ are))
 two_of key text word.Digest fits are = absurd (omega (arith, count _ _ are))
+two_of key text word.Keeps fits are = absurd (omega (arith, count _ _ are))
+two_of key text word.Clock fits are = absurd (omega (arith, count _ _ are))
+two_of key text (word.Send sent) fits are = absurd (omega (arith, count _ _ are))
 two_of key text (word.Release number) fits are = release number fits (first _ _ are) (second _ _ are)
 two_of key text (word.Counts origin) fits are = counts origin fits (first _ _ are) (second _ _ are)
 two_of key text (word.Reached origin) fits are = reached origin fits (first _ _ are) (second _ _ are)
@@ -115,10 +119,17 @@ no_unwatch key text said key_is none fits are = elim (two_of key text said fits 
   | unwatched what is text_is ↦ none what text_is
 ]
 
--- a word of three words is a watch of something from a number on, or asks for so many variables from one on
+-- an input that is sent is one of an event at time 0
+event_now : (input : ℕ) (value : ℤ) (asked : Option ℕ) → IsSending input value asked → IsEventOf input value 0
+event_now input value None fits = fits
+event_now input value (Some tick) fits = (fits.0, fits.1, omega arith)
+
+-- a word of three words is a watch of something from a number on, asks for so many variables from one on, or sends an input
 pub data Three (key what number : List ℕ) : Type 0 where
   watched : (w : Watch) → IsWatch w → key ≡ codes "watch" → what ∷ number ∷ [] ≡ watch_words w → Three key what number
   asked : (from many : ℕ) → IsRange from many → key ≡ codes "cells" → what ≡ decimal from → number ≡ decimal many → Three key what number
+  sends : (input : ℕ) (value : ℤ) → IsEventOf input value 0 → key ≡ codes "send" → what ≡ decimal input → number ≡ signed_decimal value
+      → Three key what number
 
 pub three_of : (key what number : List ℕ) (said : Word) → IsWord said → key ∷ what ∷ number ∷ [] ≡ word_words said → Three key what number
 three_of key what number word.Program fits are = absurd (omega (arith, count _ _ are))
@@ -128,23 +139,51 @@ three_of key what number (word.Cells from many) fits are =
     asked from many fits (first _ _ are) (second _ _ are) (first _ _ (rest _ _ (rest _ _ are)))
 three_of key what number word.Releases fits are = absurd (omega (arith, count _ _ are))
 three_of key what number word.Digest fits are = absurd (omega (arith, count _ _ are))
+three_of key what number word.Keeps fits are = absurd (omega (arith, count _ _ are))
+three_of key what number word.Clock fits are = absurd (omega (arith, count _ _ are))
+three_of key what number (word.Send sent) fits are =
+    sends sent.input sent.value (event_now sent.input sent.value sent.asked fits) (first _ _ are) (second _ _ are)
+    (first _ _ (rest _ _ (rest _ _ are)))
 three_of key what number (word.Release n) fits are = absurd (omega (arith, count _ _ are))
 three_of key what number (word.Counts n) fits are = absurd (omega (arith, count _ _ are))
 three_of key what number (word.Reached n) fits are = absurd (omega (arith, count _ _ are))
 three_of key what number (word.Watch w) fits are = watched w fits (first _ _ are) (rest _ _ are)
 three_of key what number (word.Unwatch w) fits are = absurd (omega (arith, count _ _ are))
 
--- a word of four words watches so many variables from one on
+pub no_input : (input value : List ℕ) (said : Word)
+    → ((number : ℕ) (given : ℤ) → IsEventOf number given 0 → input ≡ decimal number → value ≡ signed_decimal given → ⊥)
+    → IsWord said → codes "send" ∷ input ∷ value ∷ [] ≡ word_words said → ⊥
+no_input input value said none fits are = elim (three_of (codes "send") input value said fits are) [
+  | watched w range key is ↦ omega (arith, ap (λ (w : List ℕ). get_or w 0 0) key)
+  | asked from many range key from_is many_is ↦ omega (arith, ap (λ (w : List ℕ). get_or w 0 0) key)
+  | sends number given range key input_is value_is ↦ none number given range input_is value_is
+]
+
+-- a word of four words watches so many variables from one on, or sends an input at a tick
+pub data Four (key what from_text many_text : List ℕ) : Type 0 where
+  ranged : (from many : ℕ) → IsRange from many → key ≡ codes "watch" → what ≡ codes "cells" → from_text ≡ decimal from
+      → many_text ≡ decimal many → Four key what from_text many_text
+  sends : (input : ℕ) (value : ℤ) (tick : ℕ) → IsEventOf input value tick → key ≡ codes "send" → what ≡ decimal input
+      → from_text ≡ signed_decimal value → many_text ≡ decimal tick → Four key what from_text many_text
+
+sent_four : (key what f m : List ℕ) (input : ℕ) (value : ℤ) (asked : Option ℕ) → IsSending input value asked
+    → key ∷ what ∷ f ∷ m ∷ [] ≡ codes "send" ∷ decimal input ∷ signed_decimal value ∷ asked_words asked → Four key what f m
+sent_four key what f m input value None fits are = absurd (omega (arith, count _ _ are))
+sent_four key what f m input value (Some tick) fits are =
+    let behind = rest _ _ (rest _ _ are) in
+    sends input value tick fits (first _ _ are) (second _ _ are) (first _ _ behind) (second _ _ behind)
+
 pub four_of : (key what from_text many_text : List ℕ) (said : Word) → IsWord said
-    → key ∷ what ∷ from_text ∷ many_text ∷ [] ≡ word_words said
-    → (from : ℕ) × (many : ℕ) × IsRange from many × (key ≡ codes "watch") × (what ≡ codes "cells")
-    × (from_text ≡ decimal from) × (many_text ≡ decimal many)
+    → key ∷ what ∷ from_text ∷ many_text ∷ [] ≡ word_words said → Four key what from_text many_text
 four_of key what f m word.Program fits are = absurd (omega (arith, count _ _ are))
 four_of key what f m word.Names fits are = absurd (omega (arith, count _ _ are))
 four_of key what f m word.Vars fits are = absurd (omega (arith, count _ _ are))
 four_of key what f m (word.Cells from many) fits are = absurd (omega (arith, count _ _ are))
 four_of key what f m word.Releases fits are = absurd (omega (arith, count _ _ are))
 four_of key what f m word.Digest fits are = absurd (omega (arith, count _ _ are))
+four_of key what f m word.Keeps fits are = absurd (omega (arith, count _ _ are))
+four_of key what f m word.Clock fits are = absurd (omega (arith, count _ _ are))
+four_of key what f m (word.Send sent) fits are = sent_four key what f m sent.input sent.value sent.asked fits are
 four_of key what f m (word.Release n) fits are = absurd (omega (arith, count _ _ are))
 four_of key what f m (word.Counts n) fits are = absurd (omega (arith, count _ _ are))
 four_of key what f m (word.Reached n) fits are = absurd (omega (arith, count _ _ are))
@@ -153,7 +192,7 @@ four_of key what f m (word.Watch (watch.Released n)) fits are = absurd (omega (a
 four_of key what f m (word.Watch watch.Vars) fits are = absurd (omega (arith, count _ _ are))
 four_of key what f m (word.Watch (watch.Cells from many)) fits are =
     let behind = rest _ _ (rest _ _ are) in
-    (from, many, fits, first _ _ are, second _ _ are, first _ _ behind, second _ _ behind)
+    ranged from many fits (first _ _ are) (second _ _ are) (first _ _ behind) (second _ _ behind)
 four_of key what f m (word.Watch watch.Horizon) fits are = absurd (omega (arith, count _ _ are))
 four_of key what f m (word.Watch watch.Breach) fits are = absurd (omega (arith, count _ _ are))
 four_of key what f m (word.Watch watch.Steps) fits are = absurd (omega (arith, count _ _ are))
@@ -192,6 +231,10 @@ no_watch_from what number watch.Horizon r l fits are = omega (arith, count _ _ a
 no_watch_from what number watch.Breach r l fits are = omega (arith, count _ _ are)
 no_watch_from what number watch.Steps r l fits are = omega (arith, count _ _ are)
 
+few_asked : (asked : Option ℕ) → length (asked_words asked) ≤ 1
+few_asked None = omega arith
+few_asked (Some tick) = omega arith
+
 -- a word has one to four words
 pub few_words : (said : Word) → (0 < length (word_words said)) × (length (word_words said) ≤ 4)
 few_words word.Program = (omega arith, omega arith)
@@ -200,6 +243,9 @@ few_words word.Vars = (omega arith, omega arith)
 few_words (word.Cells from many) = (omega arith, omega arith)
 few_words word.Releases = (omega arith, omega arith)
 few_words word.Digest = (omega arith, omega arith)
+few_words word.Keeps = (omega arith, omega arith)
+few_words word.Clock = (omega arith, omega arith)
+few_words (word.Send sent) = (omega arith, omega (arith, few_asked sent.asked))
 few_words (word.Release number) = (omega arith, omega arith)
 few_words (word.Counts origin) = (omega arith, omega arith)
 few_words (word.Reached origin) = (omega arith, omega arith)
@@ -221,6 +267,12 @@ plain_subject subject.Horizon = refl
 plain_subject subject.Breach = refl
 plain_subject subject.Steps = refl
 
+plain_sent : (input : ℕ) (value : ℤ) (asked : Option ℕ) → IsSending input value asked
+    → are_plain (codes "send" ∷ decimal input ∷ signed_decimal value ∷ asked_words asked) ≡ true
+plain_sent input value None fits = rw (plain_decimal input (omega (arith, fits.0))) (rw (plain_signed value fits.1) refl)
+plain_sent input value (Some tick) fits =
+    rw (plain_decimal input (omega (arith, fits.0))) (rw (plain_signed value fits.1) (rw (plain_decimal tick (omega (arith, fits.2))) refl))
+
 -- the words of a word are plain
 pub plain_words : (said : Word) → IsWord said → are_plain (word_words said) ≡ true
 plain_words word.Program fits = refl
@@ -230,6 +282,9 @@ plain_words (word.Cells from many) fits =
     rw (plain_decimal from (omega (arith, fits.0))) (rw (plain_decimal many (omega (arith, fits.1.1))) refl)
 plain_words word.Releases fits = refl
 plain_words word.Digest fits = refl
+plain_words word.Keeps fits = refl
+plain_words word.Clock fits = refl
+plain_words (word.Send sent) fits = plain_sent sent.input sent.value sent.asked fits
 plain_words (word.Release number) fits = rw (plain_decimal number (omega (arith, fits))) refl
 plain_words (word.Counts origin) fits = rw (plain_decimal origin (omega (arith, fits))) refl
 plain_words (word.Reached origin) fits = rw (plain_decimal origin (omega (arith, fits))) refl

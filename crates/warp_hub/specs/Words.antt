@@ -1,7 +1,10 @@
 -- The words that a host knows beside the lines of a session, their ranges, and the one spelling of each.
-use Rattle.std.specs.Prelude.{ℕ, ◌≤◌, List, [], ◌∷◌, ◌++◌, length, All, codes, decimal}
+use Rattle.std.specs.Prelude.{ℕ, ℤ, ◌<◌, ◌≤◌, List, [], ◌∷◌, ◌++◌, Option, Some, None, length, All, codes, decimal, FitsSigned}
+use Rattle.std.specs.Fmt.{signed_decimal}
+use Rattle.std.specs.Int.{w64}
 use Rattle.std.specs.List.{join_with_byte}
-use Rattle.warp_tag.specs.Limits.{last_number}
+use Rattle.warp_tag.specs.Limits.{last_number, last_time, most_inputs, widest}
+use Rattle.warp_hub.specs.declared.words.Sending.{Sending}
 use Rattle.warp_hub.specs.declared.words.Subject.{Subject}
 use Rattle.warp_hub.specs.declared.words.Subject.TheVariants as subject
 use Rattle.warp_hub.specs.declared.words.Watch.{Watch}
@@ -27,6 +30,15 @@ IsWatch watch.Horizon = Unit {0}
 IsWatch watch.Breach = Unit {0}
 IsWatch watch.Steps = Unit {0}
 
+-- the ranges of an input, a value and a time, as events of the widest form have them
+abbrev pub IsEventOf : ℕ → ℤ → ℕ → Type 0
+IsEventOf input value time = (input < most_inputs widest) × FitsSigned w64 value × (time ≤ last_time widest)
+
+-- the ranges of an input that is sent: of its tick where one is asked for
+abbrev pub IsSending : ℕ → ℤ → Option ℕ → Type 0
+IsSending input value None = IsEventOf input value 0
+IsSending input value (Some tick) = IsEventOf input value tick
+
 -- the ranges of a word
 abbrev pub IsWord : Word → Type 0
 IsWord word.Program = Unit {0}
@@ -35,6 +47,9 @@ IsWord word.Vars = Unit {0}
 IsWord (word.Cells first count) = IsRange first count
 IsWord word.Releases = Unit {0}
 IsWord word.Digest = Unit {0}
+IsWord word.Keeps = Unit {0}
+IsWord word.Clock = Unit {0}
+IsWord (word.Send sent) = IsSending sent.input sent.value sent.asked
 IsWord (word.Release number) = number ≤ last_number
 IsWord (word.Counts origin) = origin ≤ last_number
 IsWord (word.Reached origin) = origin ≤ last_number
@@ -61,6 +76,11 @@ watch_words watch.Horizon = codes "horizon" ∷ []
 watch_words watch.Breach = codes "breach" ∷ []
 watch_words watch.Steps = codes "steps" ∷ []
 
+-- the word of the tick that is asked for, if one is
+abbrev pub asked_words : Option ℕ → List (List ℕ)
+asked_words None = []
+asked_words (Some tick) = decimal tick ∷ []
+
 -- the words of a word's line
 abbrev pub word_words : Word → List (List ℕ)
 word_words word.Program = codes "program" ∷ []
@@ -69,6 +89,9 @@ word_words word.Vars = codes "vars" ∷ []
 word_words (word.Cells first count) = codes "cells" ∷ decimal first ∷ decimal count ∷ []
 word_words word.Releases = codes "releases" ∷ []
 word_words word.Digest = codes "digest" ∷ []
+word_words word.Keeps = codes "keeps" ∷ []
+word_words word.Clock = codes "clock" ∷ []
+word_words (word.Send sent) = codes "send" ∷ decimal sent.input ∷ signed_decimal sent.value ∷ asked_words sent.asked
 word_words (word.Release number) = codes "release" ∷ decimal number ∷ []
 word_words (word.Counts origin) = codes "counts" ∷ decimal origin ∷ []
 word_words (word.Reached origin) = codes "reached" ∷ decimal origin ∷ []

@@ -14,6 +14,8 @@ pub struct Facts {
     pub names: Vec<u8>,
     /// How many clients there may be at a time.
     pub most_clients: u32,
+    /// How many inputs of an origin a tick takes that the host gives their tags.
+    pub most_inputs: u32,
     /// Who may send what; where there are none, everybody may send everything.
     pub tokens: Option<Tokens>,
 }

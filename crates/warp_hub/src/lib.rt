@@ -17,4 +17,4 @@ pub use follow::{Follower, PeerEvent, PeerToken, Phase};
 pub use rights::{MOST_ORIGINS, Rights};
 pub use said::is_said;
 pub use tokens::{Tokens, TokensFault, digest_of};
-pub use words::{Subject, Watch, Word, read_token, read_word};
+pub use words::{Sending, Subject, Watch, Word, read_token, read_word};

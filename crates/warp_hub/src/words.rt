@@ -1,14 +1,16 @@
 //! Words: the lines that a host knows beside those of a session. Each has one spelling.
 
-ghost use Rattle.std.specs.Prelude.{◌≡◌, ℕ, List, ◌≤◌, [], ◌∷◌, IfNone, IfSome, IsTrue, ◌↔◌, codes, decimal, map};
+ghost use Rattle.std.specs.Prelude.{◌≡◌, ℕ, ℤ, List, ◌≤◌, [], ◌∷◌, IfNone, IfSome, IsTrue, ◌↔◌, codes, decimal, map};
+ghost use Rattle.std.specs.Fmt.{signed_decimal};
 ghost use Rattle.warp_tag.specs.Limits.{last_number};
-ghost use Rattle.warp_hub.specs.Words.{IsRange, IsToken, IsWatch, IsWord, subject_name, token_spelling, watch_words};
+ghost use Rattle.warp_hub.specs.Words.{IsEventOf, IsRange, IsToken, IsWatch, IsWord, subject_name, token_spelling, watch_words};
 ghost use Rattle.warp_hub.specs.Words.{word_spelling, word_words};
 ghost use Rattle.warp_hub.specs.declared.words.Subject.{Subject};
 ghost use Rattle.warp_hub.specs.declared.words.Watch.{Watch};
 ghost use Rattle.warp_hub.specs.declared.words.Word.{Word};
 
-use warp_record::{is_keyword, read_u32, split_words};
+use warp_record::{Record, is_keyword, read_record, read_u32, split_words};
+use warp_tag::Form;
 
 /// The most variables that one line tells.
 const MOST_CELLS: u32 = 4_096;
@@ -52,6 +54,17 @@ pub enum Watch {
     Steps,
 }
 
+/// An input that the host gives its tag.
+#[derive(Clone, Copy)]
+pub struct Sending {
+    /// The input.
+    pub input: u32,
+    /// Its value.
+    pub value: i64,
+    /// The tick that is asked for; `None` where it is the one that the host's clock says.
+    pub asked: Option<u64>,
+}
+
 /// A word, but for `token T`.
 #[derive(Clone, Copy)]
 pub enum Word {
@@ -67,6 +80,12 @@ pub enum Word {
     Releases,
     /// `digest`: one number for the set of the log's records.
     Digest,
+    /// `keeps`: which origins the host keeps.
+    Keeps,
+    /// `clock`: which tick it is by the host's clock.
+    Clock,
+    /// `send I V [T]`: an input, to which the host gives its tag.
+    Send(Sending),
     /// `release I`: the released output with this number, from 0.
     Release(u32),
     /// `counts O`: how many names this origin has.
@@ -102,6 +121,10 @@ fn word_of_one(word: &[u8]) -> Option<Word>
         Some(Word::Releases)
     } else if is_keyword(word, b"digest") {
         Some(Word::Digest)
+    } else if is_keyword(word, b"keeps") {
+        Some(Word::Keeps)
+    } else if is_keyword(word, b"clock") {
+        Some(Word::Clock)
     } else {
         None
     }
@@ -215,6 +238,61 @@ fn cells_of(first: &[u8], count: &[u8]) -> Option<Word>
     Some(Word::Cells(first, count))
 }
 
+/// The first word of an event, whose numbers are spelled as those of an input that is sent.
+const EVENT: &[u8] = b"event";
+
+/// A number that an input which is sent has not.
+const ZERO: &[u8] = b"0";
+
+/// The input, the value and the time that these words spell, as in an event; `None` where they spell none.
+fn event_of(input: &[u8], value: &[u8], time: &[u8]) -> Option<(u32, i64, u64)>
+    ensures found { IfSome result (λ given. IsEventOf given.0 given.1 given.2
+        × ((input.now ≡ decimal given.0) × (value.now ≡ signed_decimal given.1) × (time.now ≡ decimal given.2))) }
+    ensures none { IfNone result ((number : ℕ) (given : ℤ) (tick : ℕ) → IsEventOf number given tick →
+        input.now ≡ decimal number → value.now ≡ signed_decimal given → time.now ≡ decimal tick → ⊥) }
+{
+    let words = [EVENT, ZERO, time, ZERO, input, value];
+    match read_record(Form::Four, &words)? {
+        Record::Event {
+            tag,
+            input,
+            value,
+            ..
+        } => Some((input, value, tag.time())),
+        _ => None,
+    }
+}
+
+/// The word for an input at the tick that the clock says that these two words behind the first spell; `None` where there is
+/// none.
+fn send_now(input: &[u8], value: &[u8]) -> Option<Word>
+    ensures found { IfSome result (λ said. IsWord said × (codes "send" ∷ input.now ∷ value.now ∷ [] ≡ word_words said)) }
+    ensures none { IfNone result ((said : Word) → IsWord said →
+        codes "send" ∷ input.now ∷ value.now ∷ [] ≡ word_words said → ⊥) }
+{
+    let (input, value, _) = event_of(input, value, ZERO)?;
+    Some(Word::Send(Sending {
+        input,
+        value,
+        asked: None,
+    }))
+}
+
+/// The word for an input at a tick that these three words behind the first spell; `None` where there is none.
+fn send_at(input: &[u8], value: &[u8], tick: &[u8]) -> Option<Word>
+    ensures found { IfSome result (λ said. IsWord said
+        × (codes "send" ∷ input.now ∷ value.now ∷ tick.now ∷ [] ≡ word_words said)) }
+    ensures none { IfNone result ((said : Word) → IsWord said →
+        codes "send" ∷ input.now ∷ value.now ∷ tick.now ∷ [] ≡ word_words said → ⊥) }
+{
+    let (input, value, tick) = event_of(input, value, tick)?;
+    Some(Word::Send(Sending {
+        input,
+        value,
+        asked: Some(tick),
+    }))
+}
+
 /// The word that is spelled by these three; `None` where there is none.
 fn word_of_three(word: &[u8], what: &[u8], number: &[u8]) -> Option<Word>
     ensures found { IfSome result (λ said. IsWord said
@@ -224,6 +302,9 @@ fn word_of_three(word: &[u8], what: &[u8], number: &[u8]) -> Option<Word>
 {
     if is_keyword(word, b"cells") {
         return cells_of(what, number);
+    }
+    if is_keyword(word, b"send") {
+        return send_now(what, number);
     }
     if !is_keyword(word, b"watch") {
         return None;
@@ -238,6 +319,9 @@ fn word_of_four(word: &[u8], what: &[u8], first: &[u8], count: &[u8]) -> Option<
     ensures none { IfNone result ((said : Word) → IsWord said →
         word.now ∷ what.now ∷ first.now ∷ count.now ∷ [] ≡ word_words said → ⊥) }
 {
+    if is_keyword(word, b"send") {
+        return send_at(what, first, count);
+    }
     if !is_keyword(word, b"watch") {
         return None;
     }

@@ -9,7 +9,7 @@ use Rattle.warp_clients.specs.Client.{Heard, Wrote, bytes_for}
 use Rattle.warp_clients.specs.Crowd.{IsThere}
 use Rattle.warp_clients.specs.Steps.{AreInner, ClientsState, Does, Enters, Fails, IsInner, Joins, Leaves, Limits, Renews, Step, StepDoes, Turned}
 use Rattle.warp_clients.proofs.Moving.{run_none, run_on, run_one, runs_join}
-use Rattle.warp_machine.specs.Moving.{AreAmong, HearsEach, HearsOf, IsFollowing, IsHearing, IsPassing, MayLeave, MayWriteOf, Moved, MovedWith, Stepped, TurnsAway, all_of}
+use Rattle.warp_machine.specs.Moving.{AreAmong, HearsEach, HearsOf, IsAny, IsFollowing, IsHearing, IsPassing, Lived, MayLeave, MayWriteOf, Moved, MovedWith, Stepped, TurnsAway, all_of}
 
 pub by_step : {T : Type 0} (facts : TimelineFacts T) (step : Step) (s s' : ClientsState T) → IsInner step → StepDoes facts step s s' → Moved facts s s'
 by_step facts step s s' inner does = record { run = run_one facts step s s' inner does }
@@ -138,6 +138,29 @@ with_on {T} facts May s s1 s2 moved same = subst (λ (x : ClientsState T). Moved
 pub follows : {T : Type 0} (facts : TimelineFacts T) (who : ClientId) (s s' : ClientsState T) → Stepped facts (Enters who rights.All) s s'
     → MovedWith facts IsFollowing s s'
 follows facts who s s' enters = step_with facts IsFollowing (Enters who rights.All) s s' (who, refl) enters
+
+-- by any steps
+
+among_any : (May : Step → Type 0) (steps : List Step) → AreAmong May steps → AreAmong IsAny steps
+among_any May [] each = tt
+among_any May (step ∷ steps) (inl inner, each) = (inl inner, among_any May steps each)
+among_any May (step ∷ steps) (inr may, each) = (inr tt, among_any May steps each)
+
+pub lived : {T : Type 0} (facts : TimelineFacts T) (May : Step → Type 0) (s s' : ClientsState T) → MovedWith facts May s s' → Lived facts s s'
+lived facts May s s' moved = record { steps = moved.steps; each = among_any May moved.steps moved.each; runs = moved.runs }
+
+pub lived_step : {T : Type 0} (facts : TimelineFacts T) (step : Step) (s s' : ClientsState T) → Stepped facts step s s' → Lived facts s s'
+lived_step facts step s s' stepped = step_with facts IsAny step s s' tt stepped
+
+pub lived_inner : {T : Type 0} (facts : TimelineFacts T) (s s' : ClientsState T) → Moved facts s s' → Lived facts s s'
+lived_inner facts s s' moved = moved_with facts IsAny s s' moved
+
+pub lived_away : {T : Type 0} (facts : TimelineFacts T) (s s' : ClientsState T) → TurnsAway facts s s' → Lived facts s s'
+lived_away facts s s' (inl same) = stays_with facts IsAny s s' same
+lived_away facts s s' (inr (inl turned)) = lived_step facts (Turned turned.0) s s' turned.1
+lived_away facts s s' (inr (inr came)) =
+    joined_with facts IsAny s came.1 s' (lived_step facts (Joins came.0) s came.1 came.2)
+    (lived_inner facts came.1 s' (left facts came.0 came.1 s' came.3))
 
 among_passing : (steps : List Step) → AreAmong IsHearing steps → AreAmong IsPassing steps
 among_passing [] each = tt

@@ -137,6 +137,12 @@ module _ {T : Type 0} (facts : TimelineFacts T) where
   behind_then places who bytes s s1 s2 hears same =
       (hears.0, hears.1, hears_on facts who (hears.0 ++ bytes) s s1 s2 hears.2 (stays facts s1 s2 same))
 
+  -- steps, and then it is heard
+  pub behind_first : (places : List Keeping) (who : ClientId) (bytes : List ℕ) (s s1 s2 : ClientsState T) → Moved facts s s1
+      → HearsBehind facts places who bytes s1 s2 → HearsBehind facts places who bytes s s2
+  behind_first places who bytes s s1 s2 moved hears =
+      (hears.0, hears.1, hears_first facts who (hears.0 ++ bytes) s s1 s2 moved hears.2)
+
   -- what is kept elsewhere is the same
   pub kept_as : (old new : List Keeping) (who : ClientId) (s s' : ClientsState T) → new ≡ old → HearsKept facts new who s s'
       → HearsKept facts old who s s'

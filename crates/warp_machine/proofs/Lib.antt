@@ -1,3 +1,4 @@
 pub mod Joining
 pub mod Keepings
+pub mod KeptRooms
 pub mod OperatorWords

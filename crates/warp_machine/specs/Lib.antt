@@ -3,3 +3,4 @@ pub mod Keeping
 pub mod Operating
 pub mod Places
 pub mod Peering
+pub mod Ticking

@@ -32,6 +32,14 @@ pub record MovedWith {T : Type 0} (facts : TimelineFacts T) (May : Step → Type
   pub each : AreAmong May steps
   pub runs : Runs facts steps s s'
 
+-- any step
+abbrev pub IsAny : Step → Type 0
+IsAny step = Unit {0}
+
+-- they became so by any steps: what any calls of a host come to, one after another
+abbrev pub Lived : {T : Type 0} → TimelineFacts T → ClientsState T → ClientsState T → Type 0
+Lived facts s s' = MovedWith facts IsAny s s'
+
 -- bytes are heard of a client
 abbrev pub IsHearing : Step → Type 0
 IsHearing step = (who : ClientId) × (bytes : List ℕ) × (step ≡ Does who (Heard bytes))

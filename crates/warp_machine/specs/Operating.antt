@@ -46,16 +46,19 @@ note_level (note.PeerDiffers peer) = level.Error
 note_level (note.JournalFails fault) = level.Error
 note_level (note.JournalNotRenewed fault) = level.Error
 note_level (note.JournalRenewed count) = level.Error
+note_level (note.Unsaid refusal) = level.Error
 note_level (note.Full refused most) = level.Warn
 note_level (note.NoDescriptors count) = level.Warn
 note_level (note.Slow count) = level.Warn
 note_level (note.Tokenless count) = level.Warn
 note_level (note.Forbidden count) = level.Warn
 note_level (note.SlowSync count) = level.Warn
+note_level (note.ClockStood stood) = level.Warn
 note_level (note.Peer peer news left_out) = level.Warn
 note_level (note.Started clients wanted has_tokens) = level.Info
 note_level note.InputEnded = level.Info
 note_level note.Stopped = level.Info
+note_level note.ClockOver = level.Info
 
 -- these are the entries of a text of tokens, for programs of some form
 abbrev pub AreTokens : List ℕ → List Entry → Type 0

@@ -102,8 +102,18 @@ impl<T: Timeline> Machine<T> {
         ensures all { result ≡ length bytes.now }
     {
         self.now = now;
+        self.tell_clock();
+        self.take_bytes(who, bytes)
+    }
+
+    /// Bytes of a client came: how many are taken, which are all.
+    fn take_bytes(&mut self, who: ClientId, bytes: &[u8]) -> usize
+        ensures hears { HearsBehind (facts_of T.settled T.refused T.floor T.SLACK) (keepings self.old.conns) who bytes.now
+            self.old.clients self.new.clients }
+        ensures all { result ≡ length bytes.now }
+    {
         let is_first = self.clients.kind(who) == Kind::Unknown;
-        if !self.conns.note_bytes(who, is_first, now) {
+        if !self.conns.note_bytes(who, is_first, self.now) {
             return bytes.len();
         }
         self.take(who, bytes);

@@ -55,6 +55,7 @@ impl<T: Timeline> Machine<T> {
         ensures { self.new.clients ≡ self.old.clients }
     {
         self.tell_operator();
+        self.tell_of_clock();
         self.time_answers();
         self.note_seen();
         self.note_ready();
@@ -75,7 +76,8 @@ impl<T: Timeline> Machine<T> {
             Some(since) => since.saturating_add(LONGEST_END),
             None => u64::MAX,
         };
-        self.timers.due(&[self.moment_of_peers(), end])
+        self.timers
+            .due(&[self.moment_of_peers(), self.moment_of_clock(), end])
     }
 
     /// Looks after each client.

@@ -1,7 +1,7 @@
 //! Where the machine meets its shell. It stands here, and in no crate above, since whoever owns a machine has all that drops it
 //! in its proof: so that is proved once.
 
-use crate::machine::Machine;
+use crate::machine::{Machine, NoMachine};
 use crate::start::{LastDone, Start};
 use std::alloc::Global;
 use std::net::{self, Net};
@@ -16,6 +16,7 @@ pub fn host_machine<
 >(rt: &X, alloc: Global, start: Start<T>, now: u64, outside: Outside) -> Result<(), HostFault> {
     match Machine::new(alloc, start, now) {
         Ok(mut machine) => host::<X, P, Machine<T>>(rt, alloc, &mut machine, outside),
-        Err(_) => Err(HostFault::NoMemory),
+        Err(NoMachine::NoMemory) => Err(HostFault::NoMemory),
+        Err(NoMachine::NotKept(origin)) => Err(HostFault::NotKept(origin)),
     }
 }

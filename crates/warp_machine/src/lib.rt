@@ -11,6 +11,7 @@ mod conn;
 mod conns;
 mod deciding;
 mod hosting;
+mod law;
 mod machine;
 mod moves;
 mod operating;
@@ -21,13 +22,16 @@ mod rows;
 mod shares;
 mod start;
 mod stepping;
+mod ticking;
 mod token_text;
 mod turning;
 
 pub use hosting::host_machine;
-pub use machine::Machine;
+pub use law::{calls_are_lived, kept_at_host};
+pub use machine::{Machine, NoMachine};
 pub use operating::{Level, OperatorWord, read_operator};
 pub use start::{LastDone, Options, PeerAt, Start};
+pub use ticking::{ClockOptions, TickInput};
 pub use token_text::{LONGEST_SAID, NoTokens, is_silent, read_tokens};
 pub use warp_events::{
     Action, BadTokens, ClientId, Decides, Ending, JournalSeen, Named, Note, NoteText, PeerAction,

@@ -1,7 +1,11 @@
 //! The machine: what it holds, and how it begins.
 
-ghost use Rattle.std.specs.Prelude.{◌≡◌, IfOk, OnOk};
+ghost use Rattle.std.specs.Prelude.{◌≡◌, ◌<◌, [], ℕ, IfOk, IsTrue, OnOk};
+ghost use Rattle.warp_table.specs.Records.{set_of};
+ghost use Rattle.warp_keep.specs.Judging.{MayBeKept};
+ghost use Rattle.warp_keep.specs.Keeping.{keeps};
 ghost use Rattle.warp_replica.specs.Answered.{facts_of};
+ghost use Rattle.warp_room.specs.Room.{AreKept};
 ghost use Rattle.warp_clients.specs.Tale.{IsEmpty};
 ghost use Rattle.warp_machine.specs.Moving.{Began, IsFollowing, MovedWith, clients_in};
 
@@ -14,14 +18,17 @@ use crate::operating::Level;
 use crate::peering::Followed;
 use crate::shares::Shares;
 use crate::start::{JournalSeen, Options, PeerAt, Start};
+use crate::ticking::{HostClock, clock_over};
 use std::alloc::Global;
 use std::collections::VecDeque;
-use warp_clients::Clients;
+use warp_clients::{Clients, what_is_told};
 use warp_hub::Rights;
+use warp_keep::Keeping;
 use warp_line::Timeline;
 use warp_pages::{Pages, Seen, Stopwatch};
 use warp_push::{Steps, Watchers};
-use warp_room::Room;
+use warp_replica::Replica;
+use warp_room::{Room, kept_stays};
 use warp_service::{Named, Note, Peer, Timers};
 use warp_tag::{Form, OutOfMemory, Tag};
 use warp_trace::Labels;
@@ -85,6 +92,15 @@ const NO_JOURNAL: JournalSeen = JournalSeen {
     undescribed: 0,
 };
 
+/// Why there is no host.
+#[derive(Clone, Copy, Debug, PartialEq, Eq)]
+pub enum NoMachine {
+    /// There was no memory.
+    NoMemory,
+    /// This origin can't be kept: an announcement that speaks of it is broken, or a name of it has two payloads.
+    NotKept(u32),
+}
+
 /// A host.
 #[derive(Drop)]
 pub struct Machine<T: Timeline> {
@@ -108,6 +124,8 @@ pub struct Machine<T: Timeline> {
     pub(crate) counted: Counted,
     pub(crate) journal: JournalSeen,
     pub(crate) options: Options,
+    /// The clock of what it keeps.
+    pub(crate) clock: Option<HostClock>,
     pub(crate) most_records: u32,
     /// The answer to `program`.
     program: Vec<u8>,
@@ -138,20 +156,24 @@ pub struct Machine<T: Timeline> {
 }
 
 impl<T: Timeline> Machine<T> {
-    /// A host that begins now: nothing of its log may be told yet (`told_up_to`).
-    pub fn new(alloc: Global, start: Start<T>, now: u64) -> Result<Machine<T>, OutOfMemory>
-        ensures { IfOk result (λ machine. Began (facts_of T.settled T.refused T.floor T.SLACK) (clients_in machine)) }
+    /// A host that begins now: nothing of its log may be told yet (`told_up_to`). It keeps what it is asked to.
+    pub fn new(alloc: Global, start: Start<T>, now: u64) -> Result<Machine<T>, NoMachine>
+        ensures began { IfOk result (λ machine. Began (facts_of T.settled T.refused T.floor T.SLACK) (clients_in machine)) }
+        ensures keeps { IfOk result (λ machine. (clients_in machine).room.keeping ≡ start.keeping) }
     {
+        if let Err(origin) = start.keeping.may_keep(&start.replica) {
+            return Err(NoMachine::NotKept(origin));
+        }
         let Ok(program) = Vec::from_slice(alloc, &start.facts.program) else {
-            return Err(OutOfMemory);
+            return Err(NoMachine::NoMemory);
         };
         let Ok(begun) = begin(alloc, start, program, now) else {
-            return Err(OutOfMemory);
+            return Err(NoMachine::NoMemory);
         };
         let Begun { mut machine, peers } = begun;
-        match machine.follow_all(peers) {
+        match machine.follow_and_tell(peers) {
             Ok(()) => Ok(machine),
-            Err(error) => Err(error),
+            Err(_) => Err(NoMachine::NoMemory),
         }
     }
 
@@ -163,6 +185,7 @@ impl<T: Timeline> Machine<T> {
         pages: Pages,
         program: Vec<u8>,
         options: Options,
+        clock: Option<HostClock>,
         now: u64,
     ) -> Machine<T>
         ensures { result.clients ≡ clients }
@@ -192,6 +215,7 @@ impl<T: Timeline> Machine<T> {
             counted: NOTHING_COUNTED,
             journal: NO_JOURNAL,
             options,
+            clock,
             most_records,
             program,
             level: Level::Info,
@@ -218,6 +242,19 @@ impl<T: Timeline> Machine<T> {
             self.tell(Note::LogFull);
         }
         self.note_ready();
+    }
+
+    /// Follows these peers, and tells clients of the clock before any comes.
+    fn follow_and_tell(&mut self, peers: Vec<PeerAt>) -> Result<(), OutOfMemory>
+        ensures keeps { OnOk result (self.new.clients.room.keeping ≡ self.old.clients.room.keeping) }
+        ensures moved { OnOk result (MovedWith (facts_of T.settled T.refused T.floor T.SLACK) IsFollowing
+            self.old.clients self.new.clients) }
+    {
+        self.follow_all(peers)?;
+        self.tell_clock();
+        what_is_told::<T>();
+        kept_stays::<T>();
+        Ok(())
     }
 
     /// Follows these peers.
@@ -253,6 +290,15 @@ impl<T: Timeline> Machine<T> {
         }
         self.peers.push(Followed::new(peer, who))?;
         Ok(())
+    }
+
+    /// What is known of any host: what it keeps could be kept when its log had some first records, and the log goes on from
+    /// those. It does nothing.
+    pub fn valid(&self)
+        ensures { AreKept (keeps (clients_in self.entry.now).room.keeping) (clients_in self.entry.now).room.replica.program
+            (clients_in self.entry.now).room.replica.records }
+    {
+        self.clients.room().valid();
     }
 
     /// An operator is to be told this.
@@ -300,7 +346,10 @@ fn begin<T: Timeline>(
     program: Vec<u8>,
     now: u64,
 ) -> Result<Begun<T>, OutOfMemory>
-    ensures { IfOk result (λ begun. IsEmpty begun.machine.clients) }
+    requires { (origin : ℕ) → origin < start.replica.program.origins → IsTrue (keeps start.keeping origin) →
+        MayBeKept (set_of start.replica.records) origin }
+    ensures empty { IfOk result (λ begun. IsEmpty begun.machine.clients) }
+    ensures keeps { IfOk result (λ begun. begun.machine.clients.room.keeping ≡ start.keeping) }
 {
     let Start {
         keys,
@@ -310,6 +359,8 @@ fn begin<T: Timeline>(
         texts,
         peers,
         options,
+        keeping,
+        clock,
     } = start;
     // Whatever the facts say, lines are read in the form of the program that runs.
     facts.form = replica.program().form();
@@ -322,9 +373,27 @@ fn begin<T: Timeline>(
     );
     // What is made is handed on with what could not be, so that only one function lets go of all.
     let pages = Pages::new(alloc, texts, seen);
-    let room = Room::new(alloc, replica, MOST_LINES, MOST_ANSWERS);
+    let clock = clock_over(clock, &keeping, &replica, now);
+    let room = kept_room(alloc, replica, keeping);
     let clients = Clients::new(alloc, keys, room, facts);
-    with_pages(alloc, clients, labels, pages, program, options, peers, now)
+    with_pages(
+        alloc, clients, labels, pages, program, options, clock, peers, now,
+    )
+}
+
+/// A new room over this replica, that keeps these origins, which it may.
+fn kept_room<T: Timeline>(alloc: Global, replica: Replica<T>, keeping: Keeping) -> Room<T>
+    requires { (origin : ℕ) → origin < replica.program.origins → IsTrue (keeps keeping origin) →
+        MayBeKept (set_of replica.records) origin }
+    ensures seats { result.queues.seats ≡ [] }
+    ensures made { result.made ≡ [] }
+    ensures keeps { result.keeping ≡ keeping }
+{
+    let mut room = Room::new(alloc, replica, MOST_LINES, MOST_ANSWERS);
+    match room.keep(keeping) {
+        Ok(()) => room,
+        Err(_) => unreachable!(),
+    }
 }
 
 /// A host over these clients, where its pages could be made.
@@ -335,6 +404,7 @@ fn with_pages<T: Timeline>(
     pages: Result<Pages, OutOfMemory>,
     program: Vec<u8>,
     options: Options,
+    clock: Option<HostClock>,
     peers: Vec<PeerAt>,
     now: u64,
 ) -> Result<Begun<T>, OutOfMemory>
@@ -343,7 +413,7 @@ fn with_pages<T: Timeline>(
     let Ok(pages) = pages else {
         return Err(OutOfMemory);
     };
-    let mut machine = Machine::over(alloc, clients, labels, pages, program, options, now);
+    let mut machine = Machine::over(alloc, clients, labels, pages, program, options, clock, now);
     machine.note_start();
     Ok(Begun { machine, peers })
 }

@@ -5,11 +5,13 @@ ghost use Rattle.warp_clients.specs.Client.{Heard};
 ghost use Rattle.warp_clients.specs.Steps as steps;
 ghost use Rattle.warp_machine.specs.Moving.{MayLeave, MayWriteOf, Moved, Stepped, TurnsAway};
 
-use warp_clients::{ClientId, Clients, Visits, Worked};
+use warp_clients::{ClientId, Clients, ClockTold, Input, Unsent, Visits, Worked};
 use warp_hub::Rights;
 use warp_line::Timeline;
 use warp_push::Asked;
+use warp_record::Refusal;
 use warp_step::Meter;
+use warp_tag::Tag;
 use warp_watch::Told;
 
 /// A client has come, with the rights that it has without a token. `None` where there are as many as may be, or there was
@@ -145,6 +147,39 @@ pub(crate) fn tell<T: Timeline>(clients: &mut Clients<T>, asked: &Asked) -> Opti
         return None;
     };
     Some(told)
+}
+
+/// Clients are told this of the clock from now on.
+pub(crate) fn set_clock<T: Timeline>(clients: &mut Clients<T>, told: ClockTold)
+    ensures { Moved (facts_of T.settled T.refused T.floor T.SLACK) clients.old clients.new }
+{
+    clients.set_clock(Some(told));
+}
+
+/// The tags before this one are closed of what the room keeps. Why not all of them, where that is so.
+pub(crate) fn close<T: Timeline>(clients: &mut Clients<T>, tag: Tag) -> Option<Refusal>
+    ensures { Moved (facts_of T.settled T.refused T.floor T.SLACK) clients.old clients.new }
+{
+    match clients.close(tag) {
+        Ok(()) => None,
+        Err(refusal) => Some(refusal),
+    }
+}
+
+/// An input of an origin that the room keeps is sent, at its first free microstep, of at most so many. Why the log refused
+/// it, where it did.
+pub(crate) fn send<T: Timeline>(
+    clients: &mut Clients<T>,
+    input: Input,
+    asked: Tag,
+    most: u32,
+) -> Option<Refusal>
+    ensures { Moved (facts_of T.settled T.refused T.floor T.SLACK) clients.old clients.new }
+{
+    match clients.send(input, asked, most) {
+        Err(Unsent::Refused(refusal)) => Some(refusal),
+        Err(Unsent::NotKept) | Err(Unsent::Crowded) | Ok(_) => None,
+    }
 }
 
 /// Whole lines that tell of a log of this length are pushed to a client; whether they were.

@@ -72,15 +72,17 @@ fn level_of(note: &Note) -> Level
         | Note::PeerDiffers(_)
         | Note::JournalFails(_)
         | Note::JournalNotRenewed(_)
-        | Note::JournalRenewed(_) => Level::Error,
+        | Note::JournalRenewed(_)
+        | Note::Unsaid(_) => Level::Error,
         Note::Full { .. }
         | Note::NoDescriptors(_)
         | Note::Slow(_)
         | Note::Tokenless(_)
         | Note::Forbidden(_)
         | Note::Peer { .. }
-        | Note::SlowSync(_) => Level::Warn,
-        Note::Started { .. } | Note::InputEnded | Note::Stopped => Level::Info,
+        | Note::SlowSync(_)
+        | Note::ClockStood(_) => Level::Warn,
+        Note::Started { .. } | Note::InputEnded | Note::Stopped | Note::ClockOver => Level::Info,
     }
 }
 

@@ -1,8 +1,10 @@
 //! What a host is made of.
 
+use crate::ticking::ClockOptions;
 use std::hash::RandomState;
 pub use warp_events::JournalSeen;
 use warp_hub::{Facts, PeerToken};
+use warp_keep::Keeping;
 use warp_line::Timeline;
 use warp_pages::Texts;
 use warp_replica::Replica;
@@ -52,4 +54,8 @@ pub struct Start<T: Timeline> {
     pub peers: Vec<PeerAt>,
     /// What it is asked to do.
     pub options: Options,
+    /// Which origins it keeps.
+    pub keeping: Keeping,
+    /// The clock by which it keeps them; without one it announces nothing for them.
+    pub clock: Option<ClockOptions>,
 }

@@ -51,15 +51,17 @@ impl<T: Timeline> Machine<T> {
         self.time_answers();
         self.now = now;
         self.has_more = false;
+        self.turn_clock();
         self.hear_all();
         self.note_watched();
         self.stopwatch.begin(self.clients.counts().lines, now);
     }
 
-    /// Hands on what may be told, behind the room's work.
+    /// Hands on what may be told, behind the room's work, and closes what is kept behind that.
     fn hand_on(&mut self, worked: Worked)
         ensures { MovedWith (facts_of T.settled T.refused T.floor T.SLACK) IsPassing self.old.clients self.new.clients }
     {
+        let len = self.clients.room().len();
         moves::hand(&mut self.clients);
         self.note_watched();
         self.hand_steps();
@@ -67,6 +69,8 @@ impl<T: Timeline> Machine<T> {
         self.go_on_with_peers();
         self.compare_peers();
         self.look_at_changes();
+        self.close_if_due(worked);
+        self.note_growth(len);
     }
 
     /// Tells who watches, where it is time for that.
@@ -77,6 +81,13 @@ impl<T: Timeline> Machine<T> {
             return;
         }
         self.tell_watchers();
+    }
+
+    /// What came to the log since it had so many records, when the room had worked, is executed and told at once.
+    fn note_growth(&mut self, len: u32)
+        ensures { self.new.clients ≡ self.old.clients }
+    {
+        self.has_more |= self.clients.room().len() != len;
     }
 
     /// Notes what is left to do behind a turn before which so many replies were told. Whether there is more at once.

@@ -5,7 +5,7 @@ use http::HeaderValue;
 /// What the page may do in a browser: its own style and script alone, told by their SHA-256, and connect to its host.
 const POLICY: &str = "\
 default-src 'none'; \
-script-src 'sha256-0DLePC17CyjtzmxM6cpQ1uSvNfK6k0EWYvhpF3nTbFI='; \
+script-src 'sha256-GbTAgYt/zZ2oU9AM1uQPu3vrlK/QUcJq1w2Uc9mEWbY='; \
 style-src 'sha256-d/a0rCczhXpjFCZ7Ap5v6YD9VJ6wfFrH9/NsAtHdbTQ='; \
 connect-src 'self'; \
 img-src data:; \
@@ -34,6 +34,9 @@ const PAGE: &[u8] = br##"<!doctype html>
 <div><dt>Log</dt><dd id="log">-</dd></div>
 <div><dt>Horizon</dt><dd id="horizon">-</dd></div>
 <div><dt>Outputs</dt><dd id="counts">-</dd></div>
+<div data-of-clock hidden><dt>Clock</dt><dd id="clock">-</dd></div>
+<div data-of-clock hidden><dt>Kept</dt><dd id="kept">-</dd></div>
+<div data-of-clock hidden><dt>Refused</dt><dd id="refused">-</dd></div>
 </dl>
 <table>
 <caption>Origins</caption>
@@ -94,14 +97,15 @@ it was, the replica goes on from there) or more (timers and actions may lie behi
 <form id="send">
 <label>What <select id="kind">
 <option value="event">an event</option>
+<option value="send" data-of-clock hidden>an input, now</option>
 <option value="withdraw">a withdrawal</option>
 <option value="announce">an announcement</option>
 </select></label>
-<label data-of="event">Input <select id="input"></select></label>
+<label data-of="event send">Input <select id="input"></select></label>
 <label data-of="withdraw announce">Origin <select id="origin"></select></label>
-<label>Time <input id="time" inputmode="numeric" pattern="\d+" required></label>
-<label>Microstep <input id="micro" inputmode="numeric" pattern="\d+" value="0" required></label>
-<label data-of="event">Value <input id="value" pattern="-?\d+" value="1" required></label>
+<label data-of="event withdraw announce">Time <input id="time" inputmode="numeric" pattern="\d+" required></label>
+<label data-of="event withdraw announce">Microstep <input id="micro" inputmode="numeric" pattern="\d+" value="0" required></label>
+<label data-of="event send">Value <input id="value" pattern="-?\d+" value="1" required></label>
 <label data-of="announce">Events before it <input id="events" inputmode="numeric" pattern="\d+" value="0" required></label>
 <label data-of="announce">Withdrawals before it
 <input id="withdrawn" inputmode="numeric" pattern="\d+" value="0" required></label>
@@ -134,6 +138,10 @@ it was, the replica goes on from there) or more (timers and actions may lie behi
 11:"there is no board: only a server has one",
 13:"this client may not send that",
 14:"the journal cannot be written",
+15:"only the host announces for an origin that it keeps, and only for such a one it takes what is sent",
+16:"late: the host has announced that nothing more comes before",
+17:"another event has this name",
+18:"crowded: this tick has as many inputs of the origin as the host takes",
 }
 const FIRST_PAUSE=100
 const LONGEST_PAUSE=5_000
@@ -211,7 +219,8 @@ const isSided=numbers.length>0&&numbers.reduce((one,other)=>one * other)===count
 return isSided?{name,first,count,sides:numbers}:{name:label,first,count,sides:[count]}
 }
 class Names{
-constructor({vars=[],inputs=[],outputs=[],arrays=[],hidden=[]}={}){
+constructor({origins=0,vars=[],inputs=[],outputs=[],arrays=[],hidden=[]}={}){
+this.origins=origins
 this.vars=vars
 this.hidden=hidden
 this.told=vars.filter((_,at)=>!hidden.includes(at))
@@ -221,6 +230,9 @@ this.outputs=outputs
 }
 array(name){
 return this.arrays[number("array",name,this.arrays.map(it=>it.name))]
+}
+input(name){
+return number("input",name,this.inputs.map(it=>it.name))
 }
 owner(input){
 const found=this.inputs[input]
@@ -241,6 +253,7 @@ if (value < least || value > most) throw new RangeError(`${name} is ${value}: it
 return value
 }
 const NO_RANGE="which cells to watch is missing: say it as { array: \"r.board\" }, or as { from: 0, count: 9 }"
+const valueIn=({value})=>whole("value",value,2n ** 63n - 1n,-(2n ** 63n))
 const within=(most,least=0)=>word=>{
 const number = /^(0|[1-9]\d{0,15})$/.test(word) ? Number(word) : NaN
 if(number>=least&&number<=most)return number
@@ -262,7 +275,7 @@ const PARTS={
 log:within(1e7),place:within(1e7,1),events:within(1e7),withdrawn:within(1e7),rows:within(2 ** 20),watched:within(7),
 origin:within(63),input:within(255),output:within(255),time:within(15_625_000),micro:within(255),index:within(2 ** 32 - 1),
 count:within(Number.MAX_SAFE_INTEGER),number:within(99,1),value:integer,frozen:flag,broken:flag,
-version: within(99, 1), fingerprint: matching(/^[0-9a-f]{64}$/), digits: matching(/^[0-9a-f]{32}$/),
+hertz: within(1_000, 1), version: within(99, 1), fingerprint: matching(/^[0-9a-f]{64}$/), digits: matching(/^[0-9a-f]{32}$/),
 }
 function fields(form){
 const parts = (form.match(/\S+/g) ?? []).map(it => it.split(":"))
@@ -292,9 +305,10 @@ return{kind,...RECORDS[kind](words)}
 }
 const jsonOf = text => JSON.parse(text.replace(/"(?:[^"\\]|\\.)*"|-?\d[\d.eE+-]*/g, it => (it[0] === '"' ? it : `"${it}"`)))
 function namesOf(text){
-const{vars,inputs,outputs,arrays=[],hidden=[]}=jsonOf(text)
+const{origins="0",vars,inputs,outputs,arrays=[],hidden=[]}=jsonOf(text)
 const [numberOf,countOf]=[within(MOST_VALUES),within(2 ** 16,1)]
 return new Names({
+origins:within(64)(origins),
 arrays:listOf(arrays,MOST_ARRAYS,([name,first,count])=>[textOf(name),numberOf(first),countOf(count)]),
 hidden:listOf(hidden,MOST_VARS,numberOf),
 vars:listOf(vars,MOST_VARS,textOf),
@@ -334,10 +348,13 @@ return{...counts,last:{time,micro}}
 },
 reached:fields("log origin time micro"),
 digest:fields("log digits"),
+keeps:words=>(words.length===1&&words[0]==="all"?null:listOf(words,64,PARTS.origin)),
+clock:fields("tick:count milliseconds:count hertz"),
+sent:fields("place time micro"),
 }
 const ANSWERS={
 event:"taken known",withdraw:"taken known",announce:"taken known",collect:"collected",watch:"watching",unwatch:"watching",
-token:"may",row:"row none",output:"output none",release:"release none",log:"log none",
+token:"may",send:"sent",row:"row none",output:"output none",release:"release none",log:"log none",
 }
 function replyOf(text,line){
 const [word,...words]=text.split(" ")
@@ -449,6 +466,8 @@ class Asked{
 constructor(line,watch=null){
 this.line=line
 this.watch=watch
+this.isSent=false
+this.isOnce=line.startsWith("send ")
 this.answer=new Promise((resolve,reject)=>Object.assign(this,{resolve,reject}))
 this.answer.catch(()=>{})
 }
@@ -462,7 +481,8 @@ class Client{
 #greetedAt=null
 #hasBrought=false
 #owed=0
-#clock
+#counting
+#hostClock=null
 #isConnected=false
 #late=null
 #timer
@@ -495,7 +515,7 @@ this.ready.catch(()=>{})
 this.#connect()
 if(this.timeout===Infinity)return
 const part = Math.min(this.timeout / 8, PART)
-this.#clock=setInterval(()=>this.#wait(part),part)
+this.#counting=setInterval(()=>this.#wait(part),part)
 }
 #connect(){
 const socket=new this.#WebSocket(this.url)
@@ -524,7 +544,7 @@ if(this.#socket===socket&&this.state!=="closed")this.#greeted(...answers.slice(-
 #greeted(names,program){
 const{fingerprint}=program
 this.#greetedAt=performance.now()
-if(this.#late?.isOfOpening)this.#late=null
+if(this.#late?.isOfOpening||this.#late?.isOnce)this.#late=null
 this.#fingerprint??=fingerprint
 if(this.#fingerprint!==fingerprint){
 return this.#finish(new Ended(`the host has another program now, ${fingerprint}: it had ${this.#fingerprint}`))
@@ -544,7 +564,9 @@ if(this.connections>1)for(const callback of this.#reopened)callBack(callback)
 }
 #send(asked){
 let text=""
-for(const{line}of asked){
+for(const it of asked){
+const{line}=it
+it.isSent=true
 if(text.length + line.length>=MOST_MESSAGE){
 this.#socket.send(text)
 text=""
@@ -559,6 +581,7 @@ if(this.state==="closed")return
 this.#socket=null
 this.#isConnected=false
 if(!this.#reconnect)return this.#finish(new Ended("the connection was lost"))
+this.#leaveOut()
 const hasLasted=this.#greetedAt!==null&&performance.now()- this.#greetedAt>=LASTED
 if(hasLasted||this.#hasBrought)this.#pause=FIRST_PAUSE
 this.#greetedAt=null
@@ -566,6 +589,12 @@ this.#hasBrought=false
 this.#turn("connecting")
 this.#timer=setTimeout(()=>this.#connect(),this.#pause)
 this.#pause=Math.min(2 * this.#pause,LONGEST_PAUSE)
+}
+#leaveOut(){
+const asked=this.#asked.take()
+const isLost=it=>it.isOnce&&it.isSent
+this.#asked=new Queue(asked.filter(it=>!isLost(it)))
+for (const it of asked.filter(isLost)) it.reject(new Ended(`the connection was lost, and nobody knows whether this was taken: ${it.line}`))
 }
 #wait(part){
 const isOwed=this.#socket&&(!this.#isConnected||this.#asked.length)
@@ -593,7 +622,7 @@ this.#finish(new Ended("the client was closed"))
 }
 #finish(error){
 clearTimeout(this.#timer)
-clearInterval(this.#clock)
+clearInterval(this.#counting)
 this.#isOpened=false
 this.error??=error
 this.#turn("closed")
@@ -658,6 +687,15 @@ return asked.answer
 ask(line){
 return this.#put(String(line))
 }
+async send(input,value,time=null){
+const words=[valueIn({value}),...(time===null?[]:[whole("time",time,15_625_000)])].join(" ")
+await this.ready
+return this.ask(`send ${this.names.input(input)} ${words}`)
+}
+async keeps(){
+await this.ready
+return(await this.ask("keeps"))??Array.from({length:this.names.origins},(_,at)=>at)
+}
 outputs(){
 return this.ask("outputs")
 }
@@ -712,6 +750,7 @@ const withdrawn = record.withdrawn ? `, ${record.withdrawn} withdrawn` : ""
 return `${record.origin === null ? "all origins together announce" : `origin ${record.origin} announces`} ${record.events} ${record.events === 1 ? "event" : "events"}${withdrawn}`
 }
 function answerText(answer){
+if (answer.time !== undefined) return `sent ${answer.place}: it counts at ${tagText(answer)}, and stands at place ${answer.place} of the log.`
 if (answer.isNew) return `taken ${answer.place}: it is new, and stands at place ${answer.place} of the log.`
 return `known ${answer.place}: it was there already, at place ${answer.place} of the log.`
 }
@@ -1148,12 +1187,16 @@ const board=new Board(at("cells"),at("colours"))
 const MOST_WATCHED=4096
 const EVERYBODY="*"
 const limits={log:"",origins:0}
+const TOLD_OF = { 15: "not for the client to say", 16: "late", 17: "under another event's name", 18: "crowded" }
 let client
 let token
 let program
 let watches=[]
 let steps=null
 let cells=null
+let kept=[]
+let clock=null
+let refusals=""
 let isDrawn=false
 let isAsking=false
 let mayTellLate=true
@@ -1189,7 +1232,7 @@ drawBoard()
 drawTimeline()
 tellLate()
 tellAgain()
-warn()
+put("warning",warning())
 }
 function drawFacts(){
 const{log,horizon,released,outputs,frozen,lost}=replica
@@ -1198,6 +1241,13 @@ put("log", `${log} ${log === 1 ? "record" : "records"}${limits.log && ` of at mo
 put("horizon",horizon?tagText(horizon):"-")
 const waiting=Math.max(0,outputs - released.added)
 put("counts", `${released.added} released${frozen ? ", frozen: an origin broke its word" : ""}, ${waiting} not yet${lost ? `, ${lost} lost` : ""}`)
+put("clock", clock ? `tick ${clock.tick}, ${clock.hertz} a second` : "-")
+put("kept", `${keptText()}: the host announces for ${kept.length === 1 ? "it" : "them"} by its clock`)
+put("refused",refusals||"nothing so far")
+}
+function keptText(){
+if(kept.length===originsNow().length)return "all origins"
+return `${kept.length === 1 ? "origin" : "origins"} ${kept.join(", ")}`
 }
 function originsNow(){
 const known=[...client.names.inputs.map(it=>it.origin),...replica.origins.keys(),...Array(limits.origins).keys()]
@@ -1292,7 +1342,14 @@ isAsking=true
 setTimeout(()=>{
 isAsking=false
 replica.askOpen(client).then(touch,()=>{})
+if(kept.length)askClock().then(touch,()=>{})
 },PAUSE)
+}
+async function askClock(){
+const [told,metrics]=await Promise.all([client.ask("clock"),fetched("metrics")])
+clock=told
+const counts = Object.entries(TOLD_OF).map(([number, words]) => [measured(metrics, `warpd_refused_total{number="${number}"}`), words])
+refusals=counts.filter(([count])=>count).map(it=>it.join(" ")).join(", ")
 }
 const TAKES={
 log:it=>replica.takeRecord(it),
@@ -1335,17 +1392,28 @@ watchBoard()
 choose("input", client.names.inputs.map((it, number) => [number, `${it.name} (origin ${it.origin})`]))
 askOpen()
 readLimits().catch(()=>{})
+showKept(await client.keeps().catch(()=>[]))
 if (token !== undefined) put("rights", `This token may send for: ${rightsText(await client.ask(`token ${token}`))}`)
 program=await client.program()
 touch()
 }
 const rightsText = ({ may }) => ({ "*": "all origins", read: "none, it may only read" })[may] ?? `origins ${may}`
-async function readLimits(){
+function showKept(origins){
+const isNew=origins.length>0&&!kept.length
+kept=origins
+for(const part of document.querySelectorAll("[data-of-clock]"))part.hidden=!kept.length
+if(isNew)at("kind").value="send"
+else if(!kept.length&&at("kind").value==="send")at("kind").value="event"
+showFields()
+}
+async function fetched(address){
 const headers = token === undefined ? {} : { Authorization: `Bearer ${token}` }
-const metrics=await(await fetch("metrics",{headers})).text()
-limits.log = /^warpd_log_records_limit (\d+)/m.exec(metrics)?.[1] ?? ""
-const file=await(await fetch("program.json",{headers})).json()
-limits.origins=Number(file.origins)||0
+return(await fetch(address,{headers})).text()
+}
+const measured = (metrics, name) => metrics.split("\n").find(it => it.startsWith(`${name} `))?.slice(name.length + 1) ?? ""
+async function readLimits(){
+limits.log=measured(await fetched("metrics"),"warpd_log_records_limit")
+limits.origins=Number(JSON.parse(await fetched("program.json")).origins)||0
 const all=program?.version>3?[[EVERYBODY,"all together"]]:[]
 choose("origin", [...originsNow().map(origin => [origin, `${origin}`]), ...all])
 touch()
@@ -1363,21 +1431,26 @@ for(const field of part.querySelectorAll("input"))field.disabled=part.hidden
 }
 const digits = id => `${BigInt(at(id).value)}`
 function lineOfForm(){
-const tag = `${digits("time")} ${digits("micro")}`
 const input=Number(at("input").value)
 const kind=at("kind").value
+if (kind === "send") return `send ${input} ${digits("value")}`
+const tag = `${digits("time")} ${digits("micro")}`
 if (kind === "event") return `event ${client.names.owner(input)} ${tag} ${input} ${digits("value")}`
 if (kind === "withdraw") return `withdraw ${at("origin").value} ${tag}`
 return `announce ${at("origin").value} ${tag} ${digits("events")} ${digits("withdrawn")}`
 }
-function warn(){
+function warning(){
 const kind=at("kind").value
-const origin=kind==="event"?client.names.inputs[at("input").value]?.origin:Number(at("origin").value)
-const word=kind!=="announce"&&at("time").value&&replica.origins.get(origin)?.announced
-const isLate=it=>it&&orderOf({time:at("time").value,micro:at("micro").value},it)<0
-const common=kind!=="announce"&&at("time").value&&replica.all.announced
-const [who, tag] = isLate(word) ? [`Origin ${origin}`, word] : ["All origins together", common]
-put("warning", isLate(tag) ? `${who} announced ${tagText(tag)}: this breaks that word.` : "")
+const isInput=kind==="event"||kind==="send"
+const origin=isInput?client.names.inputs[at("input").value]?.origin:at("origin").value
+const isKept=kept.includes(Number(origin))||(origin===EVERYBODY&&kept.length>0)
+if(kind==="announce")return isKept?"The host alone announces for what it keeps.":""
+if (kind === "send") return isKept ? "" : `The host does not keep origin ${origin}: send an event.`
+const isLate=it=>it&&at("time").value&&orderOf({time:at("time").value,micro:at("micro").value},it)<0
+const word=replica.origins.get(Number(origin))?.announced
+const [who, tag] = isLate(word) ? [`Origin ${origin}`, word] : ["All origins together", replica.all.announced]
+if(!isLate(tag))return ""
+return `${who} announced ${tagText(tag)}: ${isKept ? "the host takes nothing before it" : "this breaks that word"}.`
 }
 function tellAnswer(text,kind=""){
 put("answer",text)

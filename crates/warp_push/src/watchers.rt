@@ -188,6 +188,9 @@ impl Watchers {
             | Word::Cells(..)
             | Word::Releases
             | Word::Digest
+            | Word::Keeps
+            | Word::Clock
+            | Word::Send(_)
             | Word::Release(_)
             | Word::Counts(_)
             | Word::Reached(_) => true,

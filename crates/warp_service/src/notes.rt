@@ -3,6 +3,7 @@
 use crate::news::PeerNews;
 use std::{fmt, io};
 use warp_hub::PeerEvent;
+use warp_record::Refusal;
 
 /// What is wrong with the file of a journal.
 #[derive(Clone, Copy)]
@@ -26,6 +27,9 @@ pub enum JournalFault {
     /// No memory was to be had.
     NoMemory,
 }
+
+/// A tenth of a second, in microseconds.
+const TENTH: u64 = 100_000;
 
 /// What an operator is told.
 #[derive(Clone, Copy)]
@@ -88,6 +92,12 @@ pub enum Note {
     JournalRenewed(u32),
     /// A sync takes long, while so many records wait for the disk.
     SlowSync(u32),
+    /// The clock of kept origins stood still, for so many microseconds in all.
+    ClockStood(u64),
+    /// The clock of kept origins has come to the program's end.
+    ClockOver,
+    /// What the host says for the origins that it keeps was refused.
+    Unsaid(Refusal),
 }
 
 /// What the texts of notes name beside their fields.
@@ -197,7 +207,40 @@ fn write_other<W: fmt::Write>(f: &mut fmt::Formatter<W>, note: Note) -> fmt::Res
         Note::LogFull => f.write_str("the log is full: no further record is taken"),
         Note::InputEnded => f.write_str("standard input ended: the host ends"),
         Note::Stopped => f.write_str("stopped by its operator: the host ends"),
-        Note::Started { .. }
+        note => write_clock(f, note),
+    }
+}
+
+/// Writes what concerns kept origins and their clock; nothing of other notes.
+fn write_clock<W: fmt::Write>(f: &mut fmt::Formatter<W>, note: Note) -> fmt::Result {
+    match note {
+        Note::ClockStood(stood) => {
+            let tenths = stood / TENTH;
+            let seconds = tenths / 10;
+            let tenth = tenths % 10;
+            write!(f, "the clock stood still for {seconds}.{tenth} s")
+        }
+        Note::ClockOver => f.write_str(
+            "the clock is over: all ticks up to the program's stop are closed, or its log said so before",
+        ),
+        Note::Unsaid(refusal) => {
+            let number = refusal.number();
+            write!(
+                f,
+                "kept origins: the host's own record was refused {number}, so nothing more becomes final"
+            )
+        }
+        Note::NotGiven { .. }
+        | Note::NoThread(_)
+        | Note::Full { .. }
+        | Note::NoDescriptors(_)
+        | Note::Slow(_)
+        | Note::Tokenless(_)
+        | Note::Forbidden(_)
+        | Note::LogFull
+        | Note::InputEnded
+        | Note::Stopped
+        | Note::Started { .. }
         | Note::Peer { .. }
         | Note::PeerDiffers(_)
         | Note::JournalFails(_)

@@ -150,6 +150,18 @@ const WORDS: &[(Note, &str)] = &[
     (Note::InputEnded, "standard input ended: the host ends"),
     (Note::Stopped, "stopped by its operator: the host ends"),
     (
+        Note::ClockStood(2_350_999),
+        "the clock stood still for 2.3 s",
+    ),
+    (
+        Note::ClockOver,
+        "the clock is over: all ticks up to the program's stop are closed, or its log said so before",
+    ),
+    (
+        Note::Unsaid(Refusal::LogFull),
+        "kept origins: the host's own record was refused 7, so nothing more becomes final",
+    ),
+    (
         Note::Peer {
             peer: 0,
             news: PeerNews::Event(PeerEvent::Found {

@@ -8,9 +8,9 @@ use Rattle.clap.specs.Simple.{on_top}
 use Rattle.clap.specs.ValueTests.{is_unsigned_in}
 use Rattle.clap.specs.declared.builder.action.ArgAction.TheVariants.{Append, SetTrue}
 use Rattle.clap.specs.declared.builder.value_parser.ValueParser.TheVariants.{Unsigned}
-use Rattle.warp_words.specs.declared.command_line.CheckOptions.{CheckOptions}
-use Rattle.warp_words.specs.declared.command_line.Job.{Job}
-use Rattle.warp_words.specs.declared.command_line.Job.TheVariants.{Run, Play, Serve, Check, Trace, Host, Journal}
+use Rattle.warp_words.specs.declared.job.CheckOptions.{CheckOptions}
+use Rattle.warp_words.specs.declared.job.Job.{Job}
+use Rattle.warp_words.specs.declared.job.Job.TheVariants.{Run, Play, Serve, Check, Trace, Host, Journal}
 
 -- a place for one word, which has to be there
 abbrev pub wanted_word : Text → Rule
@@ -64,6 +64,17 @@ most_seconds = 86400
 abbrev pub most_clients : ℕ
 most_clients = 15000
 
+-- the most ticks of a host's clock in a second, for how many ticks one stays open at most, and the most inputs of an origin that
+-- a tick takes
+abbrev pub most_hertz : ℕ
+most_hertz = 1000
+
+abbrev pub most_grace : ℕ
+most_grace = 60000
+
+abbrev pub most_inputs : ℕ
+most_inputs = 256
+
 -- an option that is there or not
 abbrev pub flag : Text → Rule
 flag name = record (new_rule name) { long = Some name; action = Some SetTrue }
@@ -88,15 +99,20 @@ abbrev pub trace_command : App
 trace_command = with_rule (with_rule (new_app (codes "trace")) (wanted_word (codes "PROGRAM"))) (flag (codes "steps"))
 
 -- `host` with PROGRAM, `--listen`, `--clients`, `--tokens`, `--allow-origin`, `--peer`, `--peer-tokens`, `--open`,
--- `--until-input-ends`, `--operator`, `--journal`, `--sync` and `--site`
+-- `--until-input-ends`, `--operator`, `--journal`, `--sync`, `--site`, `--clock`, `--keep`, `--grace`, `--pause`,
+-- `--tick` and `--inputs-a-tick`
 abbrev pub host_command : App
 host_command =
-    with_rule (with_rule (with_rule (with_rule (with_rule (with_rule (with_rule (with_rule (with_rule (with_rule (with_rule (with_rule (with_rule (new_app (codes "host"))
+    with_rule (with_rule (with_rule (with_rule (with_rule
+    (with_rule (with_rule (with_rule (with_rule (with_rule (with_rule (with_rule
+    (with_rule (with_rule (with_rule (with_rule (with_rule (with_rule (with_rule (new_app (codes "host"))
     (wanted_word (codes "PROGRAM"))) (further_word (codes "listen"))) (further_number (codes "clients") most_clients))
     (further_word (codes "tokens"))) (further_words (codes "allow-origin"))) (further_words (codes "peer")))
     (further_word (codes "peer-tokens"))) (flag (codes "open"))) (flag (codes "until-input-ends")))
     (flag (codes "operator"))) (further_word (codes "journal"))) (further_word (codes "sync")))
-    (further_word (codes "site"))
+    (further_word (codes "site"))) (further_number (codes "clock") most_hertz)) (further_word (codes "keep")))
+    (further_number (codes "grace") most_grace)) (further_word (codes "pause"))) (further_word (codes "tick")))
+    (further_number (codes "inputs-a-tick") most_inputs)
 
 -- `journal` with ACTION and FILE
 abbrev pub journal_command : App
@@ -117,7 +133,9 @@ warpd_command =
 -- what a host is asked for: the program of this name, where to listen, how many clients there may be at a time, the file of
 -- tokens, the origins of pages that may connect, the peers, the file of tokens for peers, whether any address may be listened
 -- on without tokens, whether the host ends with its standard input, whether that has words of its operator, the file of the
--- journal, when that is brought to the disk, and the folder of its site
+-- journal, when that is brought to the disk, the folder of its site, how many ticks a second its clock has, which origins it
+-- keeps, for how many ticks a tick stays open, what its clock does behind a pause, the input that gets the ticks, and how many
+-- inputs of an origin a tick takes
 pub record HostTask : Type 0 where
   pub program : Text
   pub listen : Option Text
@@ -132,6 +150,12 @@ pub record HostTask : Type 0 where
   pub journal : Option Text
   pub sync : Option Text
   pub site : Option Text
+  pub clock : Option ℕ
+  pub keep : Option Text
+  pub grace : Option ℕ
+  pub pause : Option Text
+  pub tick : Option Text
+  pub inputs_a_tick : Option ℕ
 
 -- what the words may ask for: to run the program of this name; or over the program of the first name to play the schedule of
 -- the second; or to serve the program of this name at a port, for so many sessions, to tell how pulls ended or not, to bear so many
@@ -218,6 +242,12 @@ host_task found = option_map (λ program. HostProgram (record {
   journal = first_of (codes "journal") found;
   sync = first_of (codes "sync") found;
   site = first_of (codes "site") found;
+  clock = number_found (codes "clock") most_hertz found;
+  keep = first_of (codes "keep") found;
+  grace = number_found (codes "grace") most_grace found;
+  pause = first_of (codes "pause") found;
+  tick = first_of (codes "tick") found;
+  inputs_a_tick = number_found (codes "inputs-a-tick") most_inputs found;
 })) (first_of (codes "PROGRAM") found)
 
 -- what `journal` asks for, of what was found for it: the words in the places of ACTION and FILE
@@ -266,13 +296,24 @@ task_of (Host job) = HostProgram (record {
   journal = option_map (λ word. word.now) job.journal;
   sync = option_map (λ word. word.now) job.sync;
   site = option_map (λ word. word.now) job.site;
+  clock = job.clock;
+  keep = option_map (λ word. word.now) job.keep;
+  grace = job.grace;
+  pause = option_map (λ word. word.now) job.pause;
+  tick = option_map (λ word. word.now) job.tick;
+  inputs_a_tick = job.inputs_a_tick;
 })
 task_of (Journal action file) = SeeJournal action.now file.now
 
--- the port, the number of sessions, the seconds and the number of clients are in their ranges
+-- a number that was found, if one was, is from 1 to `most`
+abbrev pub IsUpTo : ℕ → Option ℕ → Type 0
+IsUpTo most found = IfSome found (λ n. (1 ≤ n) × (n ≤ most))
+
+-- the port, the number of sessions, the seconds, the number of clients, and those of a host's clock are in their ranges
 abbrev pub IsInRange : Task → Type 0
 IsInRange (ServeProgram program port sessions tells_pulls peer_timeout peers) =
     (1 ≤ port) × (port ≤ last_listening_port) × (1 ≤ sessions) × (sessions ≤ most_sessions)
     × IfSome peer_timeout (λ seconds. (1 ≤ seconds) × (seconds ≤ most_seconds))
-IsInRange (HostProgram task) = IfSome task.clients (λ clients. (1 ≤ clients) × (clients ≤ most_clients))
+IsInRange (HostProgram task) =
+    IsUpTo most_clients task.clients × IsUpTo most_hertz task.clock × IsUpTo most_grace task.grace × IsUpTo most_inputs task.inputs_a_tick
 IsInRange task = Unit {0}

@@ -10,115 +10,13 @@ ghost use Rattle.warp_words.specs.Words.{IsInRange, all_of_or_none, number_found
 ghost use Rattle.warp_words.specs.Words.{check_options, check_task, host_task, is_set, journal_task, serve_task, trace_task};
 ghost use Rattle.warp_words.specs.Words.{top_command, warpd_command};
 
+use crate::job::{CheckOptions, HostJob, Job};
 use crate::{
     check_help, host_help, journal_help, play_help, run_help, serve_help, top_help, trace_help,
 };
 use clap::builder::ValueParser;
 use clap::{Arg, ArgAction, ArgMatches, Command, Error};
 use std::alloc::{AllocError, Global};
-
-/// What the words ask for.
-#[derive(Debug, Drop, PartialEq, Eq)]
-pub enum Job<'a> {
-    /// Answer the lines of standard input on standard output.
-    Run {
-        /// The word that names the program to run.
-        program: &'a str,
-    },
-    /// Print what the replicas of a schedule answer in the end.
-    Play {
-        /// The word that names the program to run.
-        program: &'a str,
-        /// The word that names the file of the schedule.
-        schedule: &'a str,
-    },
-    /// Serve sessions over TCP, and pull from peers.
-    Serve {
-        /// The word that names the program to run.
-        program: &'a str,
-        /// The port to listen on, 1 to 65535.
-        port: u16,
-        /// How many sessions to serve in all, 1 to 16.
-        sessions: usize,
-        /// Whether to tell on standard error how each pull ended.
-        tells_pulls: bool,
-        /// For how many seconds a peer may be silent, 1 to 86,400; without end where none is given.
-        peer_timeout: Option<u64>,
-        /// The words that name the peers, in their order.
-        peers: Vec<&'a str>,
-    },
-    /// Tell what is in a program file, or what is wrong in it and where.
-    Check {
-        /// The word that names the program to check.
-        program: &'a str,
-        /// What to tell beside that.
-        options: CheckOptions,
-    },
-    /// Print the rows of the one run over the lines of standard input.
-    Trace {
-        /// The word that names the program to run.
-        program: &'a str,
-        /// Whether to print the steps in the order in which they were executed in their place.
-        with_steps: bool,
-    },
-    /// Serve clients that come and go, until the host is stopped.
-    Host(HostJob<'a>),
-    /// Check or repair the journal of a host.
-    Journal {
-        /// The word that says which.
-        action: &'a str,
-        /// The word that names the file of the journal.
-        file: &'a str,
-    },
-}
-
-/// What a host is asked for.
-#[derive(Debug, Drop, PartialEq, Eq)]
-pub struct HostJob<'a> {
-    /// The word that names the program to run.
-    pub program: &'a str,
-    /// The word that says where to listen.
-    pub listen: Option<&'a str>,
-    /// How many clients there may be at a time, 1 to 15,000.
-    pub clients: Option<u64>,
-    /// The word that names the file of tokens.
-    pub tokens: Option<&'a str>,
-    /// The origins of pages that may connect beside the host's own, in their order.
-    pub origins: Vec<&'a str>,
-    /// The words that name the peers, in their order.
-    pub peers: Vec<&'a str>,
-    /// The word that names the file of tokens for peers.
-    pub peer_tokens: Option<&'a str>,
-    /// Whether any address may be listened on without tokens.
-    pub is_open: bool,
-    /// Whether the host ends with its standard input.
-    pub until_input_ends: bool,
-    /// Whether its standard input has words of its operator.
-    pub operator: bool,
-    /// The word that names the file of the journal.
-    pub journal: Option<&'a str>,
-    /// The word that says when the journal is brought to the disk.
-    pub sync: Option<&'a str>,
-    /// The word that names the folder of its site.
-    pub site: Option<&'a str>,
-}
-
-/// What `check` tells beside the line of what is in a program.
-#[derive(Clone, Copy, Debug, Drop, PartialEq, Eq)]
-pub struct CheckOptions {
-    /// The numbers of its things.
-    pub numbers: bool,
-    /// How many rows it makes by itself.
-    pub rows: bool,
-    /// How much work its reactions are.
-    pub work: bool,
-    /// Its fingerprint.
-    pub fingerprint: bool,
-    /// What its numbers stand for, for other programs.
-    pub names: bool,
-    /// What is allowed, and may not have been meant.
-    pub warnings: bool,
-}
 
 const VERSION: &str = "1.2.0";
 
@@ -178,6 +76,18 @@ const SYNC: &str = "sync";
 
 const SITE: &str = "site";
 
+const CLOCK: &str = "clock";
+
+const KEEP: &str = "keep";
+
+const GRACE: &str = "grace";
+
+const PAUSE: &str = "pause";
+
+const TICK: &str = "tick";
+
+const INPUTS_A_TICK: &str = "inputs-a-tick";
+
 const ACTION: &str = "ACTION";
 
 const FILE: &str = "FILE";
@@ -193,6 +103,15 @@ const MOST_SECONDS: u64 = 86_400;
 
 /// The most clients of a host at a time.
 const MOST_CLIENTS: u64 = 15_000;
+
+/// The most ticks of a host's clock in a second.
+const MOST_HERTZ: u64 = 1_000;
+
+/// The most ticks for which a tick stays open.
+const MOST_GRACE: u64 = 60_000;
+
+/// The most inputs of an origin that a tick takes.
+const MOST_INPUTS: u64 = 256;
 
 /// What a part of a subcommand is.
 enum PartKind {
@@ -433,6 +352,45 @@ const HOST: Subcommand = Subcommand {
             help: host_help::SITE_HELP,
             kind: PartKind::FurtherWord { value: "FOLDER" },
         },
+        Part {
+            name: CLOCK,
+            help: host_help::CLOCK_HELP,
+            kind: PartKind::FurtherNumber {
+                value: "HERTZ",
+                most: MOST_HERTZ,
+            },
+        },
+        Part {
+            name: KEEP,
+            help: host_help::KEEP_HELP,
+            kind: PartKind::FurtherWord { value: "ORIGINS" },
+        },
+        Part {
+            name: GRACE,
+            help: host_help::GRACE_HELP,
+            kind: PartKind::FurtherNumber {
+                value: "TICKS",
+                most: MOST_GRACE,
+            },
+        },
+        Part {
+            name: PAUSE,
+            help: host_help::PAUSE_HELP,
+            kind: PartKind::FurtherWord { value: "HOW" },
+        },
+        Part {
+            name: TICK,
+            help: host_help::TICK_HELP,
+            kind: PartKind::FurtherWord { value: "INPUT" },
+        },
+        Part {
+            name: INPUTS_A_TICK,
+            help: host_help::INPUTS_A_TICK_HELP,
+            kind: PartKind::FurtherNumber {
+                value: "N",
+                most: MOST_INPUTS,
+            },
+        },
     ],
 };
 
@@ -628,6 +586,12 @@ fn host_job<'a>(alloc: Global, found: &ArgMatches<'a>) -> Result<Option<Job<'a>>
         journal: text(found, JOURNAL_OPTION),
         sync: text(found, SYNC),
         site: text(found, SITE),
+        clock: number(found, CLOCK, MOST_HERTZ),
+        keep: text(found, KEEP),
+        grace: number(found, GRACE, MOST_GRACE),
+        pause: text(found, PAUSE),
+        tick: text(found, TICK),
+        inputs_a_tick: number(found, INPUTS_A_TICK, MOST_INPUTS),
     })))
 }
 

@@ -39,6 +39,16 @@ With --journal the log is kept in a file, which is text, and read again at the n
 1 to 60000, the last of so long may be lost, and with never what the system had not written.
 Without --journal nothing is stored on disk.
 
+With --clock the host keeps origins, all or those of --keep: it alone announces for them, by its
+clock, so that outputs become final by themselves, and refuses what comes too late. Tick N is
+announced once the clock is past N and the grace. With --tick an input gets an event with the
+value N at each tick N while a client is there. A host with a clock follows no peer. To clients
+it has these words more:
+
+  keeps               which origins it keeps: keeps all, or keeps O O ..
+  clock               the tick, milliseconds since tick 0, ticks a second: clock N MS HERTZ
+  send INPUT V [T]    an input at the tick T, or now if none is given: sent PLACE TIME MICROSTEP
+
 Each PEER, another host or server, is followed for as long as the
 host runs: its records come in here. A host that runs another program is refused.
 
@@ -96,6 +106,22 @@ pub(crate) const SYNC_HELP: &str =
     "When the journal is synced: always, never or MILLISECONDS up to 60000, always if not given";
 
 pub(crate) const SITE_HELP: &str = "Serve the files of this folder below /site/";
+
+pub(crate) const CLOCK_HELP: &str = "Keep origins by a clock of so many ticks a second, 1 to 1000";
+
+pub(crate) const KEEP_HELP: &str =
+    "Which origins are kept with a clock: all or O,O,.., all if not given";
+
+pub(crate) const GRACE_HELP: &str =
+    "For how many ticks one stays open (else a quarter of a second), 1 to 60000";
+
+pub(crate) const PAUSE_HELP: &str =
+    "What the clock does behind a pause: stand or jump, stand if not given";
+
+pub(crate) const TICK_HELP: &str = "The input, by name or number, that gets an event each tick";
+
+pub(crate) const INPUTS_A_TICK_HELP: &str =
+    "How many inputs of an origin a tick takes, 1 to 256, 16 if not given";
 
 /// The texts on `host`.
 pub(crate) fn help() -> Help {

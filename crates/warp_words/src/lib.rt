@@ -4,6 +4,7 @@
 mod check_help;
 mod command_line;
 mod host_help;
+mod job;
 mod journal_help;
 mod play_help;
 mod run_help;
@@ -11,4 +12,5 @@ mod serve_help;
 mod top_help;
 mod trace_help;
 
-pub use command_line::{CheckOptions, HostJob, Job, words};
+pub use command_line::words;
+pub use job::{CheckOptions, HostJob, Job};

@@ -38,14 +38,14 @@ use Rattle.warp_host.specs.declared.hosting.HostFault.TheVariants as host_fault
 use Rattle.warp_disk.specs.declared.journal_faults.OpenFault.{OpenFault}
 use Rattle.warp_disk.specs.declared.journal_faults.OpenFault.TheVariants as open_fault
 use Rattle.warp_words.specs.Words.{Task, RunProgram, PlaySchedule, ServeProgram, CheckProgram, TraceProgram, HostProgram, SeeJournal, task_in, warpd_command}
-use Rattle.warp_words.specs.declared.command_line.CheckOptions.{CheckOptions}
+use Rattle.warp_words.specs.declared.job.CheckOptions.{CheckOptions}
 use Rattle.warp_session.specs.declared.door.ServeFault.{ServeFault}
 use Rattle.warp_session.specs.declared.door.ServeFault.TheVariants as serve_fault
 use Rattle.warp_session.specs.declared.desk_session.SessionEnd.{SessionEnd}
 use Rattle.warp_session.specs.declared.desk_session.SessionEnd.TheVariants.{End, ReadFault, WriteFault, TooManyReads, NoMemory}
 use Rattle.warpd.specs.Gathered.{lacks_memory}
 use Rattle.warpd.specs.declared.outcome.Outcome.{Outcome}
-use Rattle.warpd.specs.declared.outcome.Outcome.TheVariants.{Done, Words, TooManyLanes, NoAddress, NotOpen, TooManyPeers, NoPeer, NoOrigin, Program, Schedule, ShownTokens, BadTokens, NoTokens, NoAction, NoSync, JournalInUse, NoJournal, OtherJournal, DamagedJournal, RefusedJournal, LostJournal, NoSite, LargeSite, NoProgram, NoSchedule, Input, Output, Memory, Listen, Accept}
+use Rattle.warpd.specs.declared.outcome.Outcome.TheVariants.{Done, Words, TooManyLanes, NoAddress, NotOpen, TooManyPeers, NoPeer, NoOrigin, Program, Schedule, ShownTokens, BadTokens, NoTokens, NoAction, NoSync, JournalInUse, NoJournal, OtherJournal, DamagedJournal, RefusedJournal, LostJournal, NoSite, LargeSite, NoClock, ClockWithPeers, NoKeep, NoPause, NoTick, NotKept, NoProgram, NoSchedule, Input, Output, Memory, Listen, Accept}
 use Rattle.warpd.specs.declared.outcome.TokenFile.{TokenFile}
 use Rattle.warpd.specs.declared.outcome.TokenFile.TheVariants.{Clients, Peers}
 
@@ -74,6 +74,12 @@ status_of (RefusedJournal line) = 3
 status_of LostJournal = 4
 status_of NoSite = 4
 status_of LargeSite = 3
+status_of NoClock = 2
+status_of ClockWithPeers = 2
+status_of NoKeep = 2
+status_of NoPause = 2
+status_of NoTick = 2
+status_of (NotKept origin) = 3
 status_of NoProgram = 4
 status_of NoSchedule = 4
 status_of Input = 4
@@ -122,6 +128,12 @@ told_line (RefusedJournal line) = codes "journal refused at line " ++ decimal li
 told_line LostJournal = codes "cannot write the journal\n"
 told_line NoSite = codes "cannot read the site\n"
 told_line LargeSite = codes "the site is too large\n"
+told_line NoClock = codes "that option wants --clock\n"
+told_line ClockWithPeers = codes "--clock and --peer do not go together\n"
+told_line NoKeep = codes "--keep is all or O,O,.. of the program's origins\n"
+told_line NoPause = codes "--pause is stand or jump\n"
+told_line NoTick = codes "--tick is an input of a kept origin\n"
+told_line (NotKept origin) = codes "cannot keep origin " ++ decimal origin ++ codes "\n"
 told_line NoProgram = codes "cannot read the program\n"
 told_line NoSchedule = codes "cannot read the schedule\n"
 told_line Input = codes "input failed\n"
@@ -300,7 +312,13 @@ open_outcome (open_fault.Damaged line) = DamagedJournal line
 open_outcome (open_fault.Refused line) = RefusedJournal line
 open_outcome open_fault.NoMemory = Memory
 
--- the run ends so before a host begins: for its words, its files of tokens, its journal, its site, or want of memory
+-- the run ends so before a host begins for what is asked of kept origins and their clock, or for a log over which one can't be kept
+abbrev pub KeepsFromKeeping : Outcome → Type 0
+KeepsFromKeeping outcome =
+    (outcome ≡ NoClock) ⊎ (outcome ≡ ClockWithPeers) ⊎ (outcome ≡ NoKeep) ⊎ (outcome ≡ NoPause) ⊎ (outcome ≡ NoTick)
+    ⊎ ((origin : ℕ) × (outcome ≡ NotKept origin))
+
+-- the run ends so before a host begins: for its words, its files of tokens, its journal, its site, what it keeps, or want of memory
 abbrev pub KeepsFromHosting : Outcome → Type 0
 KeepsFromHosting outcome =
     (outcome ≡ NoAddress) ⊎ (outcome ≡ NotOpen) ⊎ (outcome ≡ TooManyPeers) ⊎ (outcome ≡ NoPeer) ⊎ (outcome ≡ NoOrigin) ⊎ (outcome ≡ NoSync) ⊎ (outcome ≡ Memory)
@@ -308,7 +326,7 @@ KeepsFromHosting outcome =
     ⊎ ((which : TokenFile) × (outcome ≡ ShownTokens which))
     ⊎ ((which : TokenFile) × (line : ℕ) × (outcome ≡ BadTokens which line))
     ⊎ ((which : TokenFile) × (outcome ≡ NoTokens which))
-    ⊎ (outcome ≡ NoSite) ⊎ (outcome ≡ LargeSite)
+    ⊎ (outcome ≡ NoSite) ⊎ (outcome ≡ LargeSite) ⊎ KeepsFromKeeping outcome
 
 -- the line that is printed once a host listens on this address
 abbrev pub host_line : List ℕ → List ℕ
@@ -319,10 +337,11 @@ abbrev pub hosting_outcome : HostFault → Outcome
 hosting_outcome host_fault.System = Accept
 hosting_outcome host_fault.NoMemory = Memory
 hosting_outcome host_fault.Journal = LostJournal
+hosting_outcome (host_fault.NotKept origin) = NotKept origin
 
--- a host ends so behind its line: as a server does, or since its journal could not be written any more
+-- a host ends so behind its line: as a server does, since its journal could not be written any more, or since an origin can't be kept
 abbrev pub EndsHosting : Outcome → Type 0
-EndsHosting outcome = EndsServing outcome ⊎ (outcome ≡ LostJournal)
+EndsHosting outcome = EndsServing outcome ⊎ (outcome ≡ LostJournal) ⊎ ((origin : ℕ) × (outcome ≡ NotKept origin))
 
 -- Hosting ends so: its address can't be listened on, or there is no memory to say so, and nothing is done; or its line, which has
 -- the address that the system tells, can't be written; or that is written, and nothing else through these streams, whatever comes

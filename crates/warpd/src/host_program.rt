@@ -29,6 +29,8 @@ pub(crate) struct HostedProgram {
     pub(crate) identity: Vec<u8>,
     pub(crate) names: Vec<u8>,
     pub(crate) names_json: Vec<u8>,
+    /// The names of its inputs.
+    pub(crate) inputs: Vec<String>,
     /// The names that steps are told by.
     pub(crate) labels: Labels,
 }
@@ -39,6 +41,7 @@ struct Told {
     identity: Vec<u8>,
     names: Vec<u8>,
     names_json: Vec<u8>,
+    inputs: Vec<String>,
 }
 
 /// The program of this name: `builtin:twice`, or that of the file at this path. Why there is none is told on standard
@@ -172,6 +175,7 @@ fn with_told(
         identity,
         names,
         names_json,
+        inputs,
     } = told;
     HostedProgram {
         program,
@@ -179,6 +183,7 @@ fn with_told(
         identity,
         names,
         names_json,
+        inputs,
         labels: names_for_a_trace(labels),
     }
 }
@@ -189,11 +194,22 @@ fn told_of(alloc: Global, named: &NamedProgram) -> Result<Told, AllocError> {
     let names = text_of(alloc, b"names ", json.as_str().as_bytes())?;
     let names_json = Vec::from_slice(alloc, json.as_str().as_bytes())?;
     let identity = identity_of(alloc, named)?;
+    let inputs = copies_of(alloc, &named.labels.inputs)?;
     Ok(Told {
         identity,
         names,
         names_json,
+        inputs,
     })
+}
+
+/// These texts again.
+fn copies_of(alloc: Global, texts: &[String]) -> Result<Vec<String>, AllocError> {
+    let mut copies = Vec::new(alloc);
+    for text in texts {
+        copies.push(String::from_str(alloc, text.as_str())?)?;
+    }
+    Ok(copies)
 }
 
 /// `program V X`: the version of program files, and the fingerprint.

@@ -5,6 +5,7 @@ ghost use Rattle.std.specs.Option.{is_some};
 ghost use Rattle.warp_host.specs.Listening.{MayListen};
 ghost use Rattle.warpd.specs.Outcome.{KeepsFromHosting};
 
+use crate::clock_words::{ClockPlan, clock_of};
 use crate::origins::{is_address, is_origin};
 use crate::outcome::{Outcome, TokenFile, outcome_of_tokens};
 use crate::site::site_of;
@@ -56,6 +57,8 @@ pub(crate) struct HostPlan {
     pub(crate) sync: SyncWhen,
     /// The files of its site.
     pub(crate) site: Site,
+    /// What it keeps, and by which clock, if it has one.
+    pub(crate) clock: Option<ClockPlan>,
 }
 
 /// The address that the word names.
@@ -359,6 +362,7 @@ pub(crate) fn host_plan<X: Files + Eprint>(
     }
     let tokens = tokens_of(rt, alloc, job.tokens, TokenFile::Clients)?;
     let peers = peers_with_tokens(rt, alloc, job)?;
+    let clock = clock_of(rt, alloc, job)?;
     let origins = origins_of(rt, alloc, &job.origins)?;
     let sync = sync_of(rt, job.sync, job.journal.is_some())?;
     let journal = journal_of(rt, alloc, job.journal)?;
@@ -374,6 +378,7 @@ pub(crate) fn host_plan<X: Files + Eprint>(
         journal,
         sync,
         site,
+        clock,
     })
 }
 

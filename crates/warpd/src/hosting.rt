@@ -2,6 +2,7 @@
 ghost use Rattle.std.specs.Prelude.{◌≡◌, ℕ, IfErr, IfOk, List, MatchBool, OnErr, string_bytes};
 ghost use Rattle.warpd.specs.Outcome.{EndsHosting, Hosts, HostsAt, HostsPlanned, IsPrinted, KeepsFromHosting, host_line};
 
+use crate::clock_words::{Kept, check_kept, kept_of};
 use crate::host_program::{HostedProgram, fingerprint_in, hosted_program, version_of};
 use crate::host_words::{HostPlan, TokenText, host_plan};
 use crate::outcome::{Outcome, TokenFile, outcome_of_hosting, outcome_of_journal};
@@ -43,6 +44,7 @@ struct Prepared<T: Timeline> {
     bytes: Vec<u8>,
     names_json: Vec<u8>,
     site: Site,
+    kept: Kept,
     origins: Vec<String>,
     address: SocketAddr,
     channel: ChannelUse,
@@ -195,6 +197,7 @@ fn prepare<P: Host, T: Timeline>(
 {
     let form = hosted.program.form();
     let ClientTokens { lines, pages, path } = tokens_of(rt, alloc, &hosted.program, plan.tokens)?;
+    let kept = kept_of(rt, &plan.clock, &hosted.program, &hosted.inputs)?;
     let HostedProgram {
         program,
         bytes,
@@ -202,6 +205,7 @@ fn prepare<P: Host, T: Timeline>(
         names,
         names_json,
         labels,
+        ..
     } = hosted;
     let peers = u32::try_from(plan.peers.len()).unwrap_or(u32::MAX);
     let most_clients = plan.clients.saturating_add(peers);
@@ -212,6 +216,9 @@ fn prepare<P: Host, T: Timeline>(
         Ok(journal) => journal,
         Err(outcome) => return Err(outcome),
     };
+    if let Err(outcome) = check_kept(rt, &kept.keeping, &replica) {
+        return Err(outcome);
+    }
     Ok(Prepared {
         replica,
         facts: Facts {
@@ -220,6 +227,7 @@ fn prepare<P: Host, T: Timeline>(
             names,
             most_clients,
             tokens: lines,
+            most_inputs: kept.most_inputs,
         },
         labels,
         peers: plan.peers,
@@ -228,6 +236,7 @@ fn prepare<P: Host, T: Timeline>(
         bytes,
         names_json,
         site: plan.site,
+        kept,
         origins: plan.origins,
         address: plan.address,
         channel: ChannelUse {
@@ -377,6 +386,7 @@ fn parted<T: Timeline>(
         bytes,
         names_json,
         site,
+        kept,
         origins,
         channel,
         journal,
@@ -408,6 +418,8 @@ fn parted<T: Timeline>(
         texts,
         peers,
         options,
+        keeping: kept.keeping,
+        clock: kept.clock,
     };
     (start, outside)
 }

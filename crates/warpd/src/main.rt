@@ -2,6 +2,7 @@
 #![tactic(auto)]
 
 mod checking;
+mod clock_words;
 mod closed_streams;
 mod connection;
 mod file_bytes;

@@ -74,6 +74,18 @@ pub enum Outcome {
     NoSite,
     /// The site has more files, or more bytes, than a host keeps.
     LargeSite,
+    /// An option that wants a clock, without one.
+    NoClock,
+    /// A clock, and a peer to follow.
+    ClockWithPeers,
+    /// What is to be kept is no list of the program's origins.
+    NoKeep,
+    /// What a clock is to do behind a pause is nothing that it does.
+    NoPause,
+    /// What is to get the ticks is no input of a kept origin.
+    NoTick,
+    /// Over the log this origin can't be kept.
+    NotKept(u64),
     /// There is no program of this name, or its file couldn't be read.
     NoProgram,
     /// The file of the schedule couldn't be read.
@@ -103,7 +115,9 @@ pub fn status(outcome: Outcome) -> u8
         Outcome::OtherJournal | Outcome::DamagedJournal(_) | Outcome::RefusedJournal(_) => 3,
         Outcome::NoJournal | Outcome::LostJournal => 4,
         Outcome::NoSite => 4,
-        Outcome::LargeSite => 3,
+        Outcome::LargeSite | Outcome::NotKept(_) => 3,
+        Outcome::NoClock | Outcome::ClockWithPeers => 2,
+        Outcome::NoKeep | Outcome::NoPause | Outcome::NoTick => 2,
         Outcome::JournalInUse => 6,
         Outcome::ShownTokens(_) | Outcome::BadTokens(_, _) => 3,
         Outcome::NoProgram | Outcome::NoSchedule | Outcome::NoTokens(_) => 4,
@@ -142,6 +156,12 @@ pub fn say(outcome: Outcome) -> ArrayString<LONGEST_LINE>
         Outcome::LostJournal => plain("cannot write the journal\n"),
         Outcome::NoSite => plain("cannot read the site\n"),
         Outcome::LargeSite => plain("the site is too large\n"),
+        Outcome::NoClock => plain("that option wants --clock\n"),
+        Outcome::ClockWithPeers => plain("--clock and --peer do not go together\n"),
+        Outcome::NoKeep => plain("--keep is all or O,O,.. of the program's origins\n"),
+        Outcome::NoPause => plain("--pause is stand or jump\n"),
+        Outcome::NoTick => plain("--tick is an input of a kept origin\n"),
+        Outcome::NotKept(origin) => with_number("cannot keep origin ", origin),
         Outcome::NoProgram => plain("cannot read the program\n"),
         Outcome::NoSchedule => plain("cannot read the schedule\n"),
         Outcome::Input => plain("input failed\n"),
@@ -269,6 +289,7 @@ pub fn outcome_of_hosting(hosted: Result<(), HostFault>) -> Outcome
         Err(HostFault::System) => Outcome::Accept,
         Err(HostFault::NoMemory) => Outcome::Memory,
         Err(HostFault::Journal) => Outcome::LostJournal,
+        Err(HostFault::NotKept(origin)) => Outcome::NotKept(u64::from(origin)),
     }
 }
 

@@ -20,6 +20,13 @@ pub(crate) fn tell_site<X: Eprint>(rt: &X, path: &str, error: &io::Error) {
     let _ = eprintln!(rt; "{path}: {error}");
 }
 
+/// Tells that this origin can't be kept over the log.
+pub(crate) fn tell_unkept<X: Eprint>(rt: &X, origin: u32) {
+    let _ = eprintln!(rt;
+        "origin {origin} can't be kept: an announcement that speaks of it is broken, or a name of it has two payloads"
+    );
+}
+
 /// Tells that there are more peers than there may be.
 pub(crate) fn tell_peers<X: Eprint>(rt: &X, count: usize, most: usize) {
     let _ = eprintln!(rt; "--peer: {count} of them, of at most {most}");

@@ -1,5 +1,5 @@
 // A player's page. The game runs in it: the player's own moves show at once, and those of the other when they have come, by going
-// back. What both pages show in the end is what the host has.
+// back. The host gives each move its tick, and says up to where all is in. What both pages show in the end is what the host has.
 
 import { Engine } from "./engine.js"
 import { overlay } from "./overlay.js"
@@ -12,7 +12,6 @@ const WIDTH = 25
 const HEIGHT = 7
 const CELL = 24
 const GHOST = 600
-const ANNOUNCE_EVERY = 8
 const TURN_EVERY = 20
 const ASK_EVERY = 1_000
 const NAMES = ["Ann", "Ben"]
@@ -45,12 +44,10 @@ const put = (id, text) => {
   if (at(id).textContent !== text) at(id).textContent = text
 }
 
-/** What the player does: moves, and says now and then that no move before comes any more. */
+/** What the player does. */
 class Play {
   constructor() {
-    const { time } = replica.tick ?? { time: 0 }
-    this.ruled = time
-    this.announced = time
+    this.ruled = 0
     this.goes = number(`${player}.goes`)
   }
 
@@ -60,22 +57,18 @@ class Play {
    * @param {{ time?: number }} when
    */
   steer(way, when = {}) {
-    if (way === this.goes || this.announced > game.ticks) return
+    if (way === this.goes || (when.time ?? replica.tick?.time ?? 0) > game.ticks) return
     this.goes = way
     replica.act(`${player}.steer`, way, when)
   }
 
-  /** What the time has brought: a rule goes at each tick, and what is over is announced. */
+  /** What the time has brought: a rule goes at each tick. */
   turn() {
     const { time } = replica.tick ?? { time: 0 }
     for (; rule && this.ruled < time; this.ruled += 1) {
       const seenNow = { row: number(`${player}.row`), ball: number("ball.y") }
       this.steer(rule(this.ruled + 1, seenNow), { time: this.ruled + 1 })
     }
-    const end = time === game.ticks ? time + 1 : time
-    if (end < this.announced + ANNOUNCE_EVERY && end <= game.ticks || this.announced > game.ticks) return
-    this.announced = end
-    replica.announce({ time: end }).catch(error => put("state", error.message))
   }
 }
 
@@ -159,8 +152,12 @@ function listen(play) {
   }
 }
 
-/** Both pages show the one delay that there is. What was told before this page's slider was moved last is passed over. */
-async function followDelay() {
+/**
+ * Both pages show the one delay that there is. What was told before this page's slider was moved last is passed over. It calls
+ * back once the game has begun.
+ * @param {() => void} begun
+ */
+async function followGame(begun) {
   at("delay").addEventListener("input", () => {
     put("told", at("delay").value)
     seen.slid = performance.now()
@@ -169,7 +166,7 @@ async function followDelay() {
   for (;;) {
     const asked = performance.now()
     const { delay, began } = await (await fetch("/game")).json()
-    if (began && !game.began) put("state", "The game is on.")
+    if (began && !game.began) begun()
     game.began = began
     if (seen.slid < asked - ASK_EVERY) {
       at("delay").value = delay
@@ -187,9 +184,14 @@ async function main() {
   at("delay").max = game.mostDelay
   at("host").href = `http://${game.host}/`
   const [bytes, program] = await Promise.all([(await fetch("engine.wasm")).arrayBuffer(), (await fetch("pong.json")).text()])
+  const engine = await Engine.load(bytes)
+  put("state", "Waiting for the other player's page.")
+  await post("/join", player)
+  await new Promise(begun => followGame(() => begun(null)).catch(() => {}))
   const client = new Client(`ws://${game.link}/ws`)
-  const clock = { input: "clock.tick", hertz: 1_000 / game.tick, last: game.ticks }
-  replica = new Replica(client, { engine: await Engine.load(bytes), program, origin: player === "ann" ? 1 : 2, clock, smooth })
+  /** @type {import("./replica.js").ClockOptions} */
+  const clock = { input: "clock.tick", value: "tick", hertz: game.hertz, last: game.ticks }
+  replica = new Replica(client, { engine, program, origin: player === "ann" ? 1 : 2, clock, smooth })
   replica.onfinal = row => seen.final.push(row)
   replica.onrollback = wentBack
   replica.onerror = error => put("state", error.message)
@@ -199,9 +201,7 @@ async function main() {
   requestAnimationFrame(draw)
   if (words.has("stats")) overlay(replica)
   scrubber(replica, { parent: at("past"), show: past => (seen.past = past) })
-  put("state", "Waiting for the other player's page.")
-  await post("/join", player)
-  followDelay().catch(() => {})
+  put("state", "The game is on.")
   // Where the tab is behind another one, it draws nothing and plays on.
   setInterval(() => {
     if (document.hidden) replica.frame()

@@ -3,4 +3,4 @@ use Rattle.warp_clients.proofs.Moving.{carries}
 use Rattle.warp_clients.proofs.crowd.Crowd.carry.Goals as goal
 
 pub returns : goal.returns
-returns c = rw (← c.self.view_is) (refl, carries (record { facts = c.self.inside.facts; failing = c.self.inside.is_failing; limit = c.self.inside.limit }) c.args.who c.self.inside.places c.carry.new.self c.carry.ensures)
+returns c = rw (← c.self.view_is) (refl, carries (record { facts = c.self.inside.facts; failing = c.self.inside.is_failing; limit = c.self.inside.limit; clock = c.self.inside.clock }) c.args.who c.self.inside.places c.carry.new.self c.carry.ensures)

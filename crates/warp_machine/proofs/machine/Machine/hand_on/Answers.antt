@@ -1,6 +1,6 @@
 use Rattle.warp_replica.specs.Answered.{facts_of}
 use Rattle.warp_machine.specs.Moving.{IsPassing}
-use Rattle.warp_machine.proofs.Joining.{joined, joined_with, kept_first, moved_with}
+use Rattle.warp_machine.proofs.Joining.{joined, joined_with, kept_first, kept_on, moved_with}
 use Rattle.warp_machine.proofs.machine.Machine.hand_on.Goals as goal
 
 pub returns : goal.returns
@@ -14,5 +14,9 @@ returns g c =
     (moved_with facts IsPassing start c.tell_if_due.new.self.clients told) c.go_on_with_peers.ensures in
     let looked = kept_first facts c.go_on_with_peers.new.self.clients c.compare_peers.new.self.clients c.look_at_changes.new.self.clients
     c.compare_peers.ensures c.look_at_changes.ensures in
-    joined_with facts IsPassing start c.go_on_with_peers.new.self.clients c.look_at_changes.new.self.clients peers
-    (moved_with facts IsPassing c.go_on_with_peers.new.self.clients c.look_at_changes.new.self.clients looked)
+    let closed = joined facts c.go_on_with_peers.new.self.clients c.look_at_changes.new.self.clients c.close_if_due.new.self.clients
+    looked c.close_if_due.ensures in
+    let grown = kept_on facts c.go_on_with_peers.new.self.clients c.close_if_due.new.self.clients c.note_growth.new.self.clients
+    closed c.note_growth.ensures in
+    joined_with facts IsPassing start c.go_on_with_peers.new.self.clients c.note_growth.new.self.clients peers
+    (moved_with facts IsPassing c.go_on_with_peers.new.self.clients c.note_growth.new.self.clients grown)
