@@ -156,7 +156,7 @@ def same_coins(browser, other, tabs):
     wanted = [f"{'ann' if it.value == 1 else 'ben'} at tick {it.tag.time}" for it in rows]
     for tab in tabs:
         browser.driver.switch_to.window(tab)
-        browser.wait(f"return JSON.stringify({COINS}.slice(0, {len(wanted)})) === {json.dumps(json.dumps(wanted, separators=(',', ':')))}", "the coins")
+        browser.wait(f"return {COINS}.slice(0, {len(wanted)}).join() === {json.dumps(','.join(wanted))}", "the coins")
 
 
 def fetch(browser, other, name):
