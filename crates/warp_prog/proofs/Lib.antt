@@ -36,5 +36,6 @@ pub mod LimitLemmas
 pub mod CanonicalLemmas
 pub mod NamesLemmas
 pub mod OwnLemmas
+pub mod WaitLemmas
 pub mod WorkLemmas
 pub mod WorkParts

@@ -24,6 +24,7 @@ pub mod Reading
 pub mod Refusal
 pub mod Explain
 pub mod OwnRows
+pub mod Waits
 pub mod Canonical
 pub mod NamesLine
 pub mod Account

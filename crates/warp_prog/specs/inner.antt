@@ -7,3 +7,4 @@ pub mod Cause
 pub mod Circle
 pub mod Hash
 pub mod Others
+pub mod Spread

@@ -14,12 +14,14 @@ pub(crate) mod limits;
 mod neighbour;
 mod place;
 pub(crate) mod reason;
+mod routes;
 mod rows;
 mod shape;
 mod stands_twice;
 mod terms;
 mod text;
 pub(crate) mod trail;
+mod waits;
 mod warnings;
 
 use crate::backward::leads_back;
@@ -43,6 +45,7 @@ pub(crate) use labels::labels_of;
 pub use rows::rows_warning;
 use serde_json::{Error, Value};
 use std::alloc::{AllocError, Global};
+pub use waits::waits_warning;
 pub use warnings::program_warnings;
 
 /// How many bytes a file has at most.

@@ -37,6 +37,7 @@ pub use due::own_rows;
 pub use error::LoadError;
 pub use explain::{
     AccountOptions, Labels, explanation, program_account, program_warnings, rows_warning,
+    waits_warning,
 };
 pub use json_names::names_line;
 pub use law::loader_order;

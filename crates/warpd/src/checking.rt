@@ -17,7 +17,7 @@ use std::io::Read;
 use warp_host::{NO_FILE, is_no_file};
 use warp_prog::{
     AccountOptions, LoadError, NamedProgram, explanation, load_named, program_account,
-    program_warnings, rows_warning,
+    program_warnings, rows_warning, waits_warning,
 };
 use warp_step::Program;
 use warp_words::CheckOptions;
@@ -135,6 +135,7 @@ fn warn(
     }
     if options.warnings {
         add_remark(remark, program_warnings(alloc, bytes));
+        add_remark(remark, waits_warning(alloc, &named.program, &named.labels));
     }
 }
 

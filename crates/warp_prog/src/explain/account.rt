@@ -280,7 +280,7 @@ fn reaction_count(program: &Program) -> usize
 }
 
 /// Adds a word, a space and a number.
-fn add_count(text: &mut String, word: &str, number: u64) -> Result<(), AllocError>
+pub(crate) fn add_count(text: &mut String, word: &str, number: u64) -> Result<(), AllocError>
     ensures { OnOk result (string_bytes text.new ≡ string_bytes text.old ++ counted word.now number) }
 {
     let mut digits = Buffer::new();
