@@ -24,7 +24,7 @@ LOADER.exec_module(unproved)
 NAME = "warp_simulated"
 # The libraries that the calls name, as a line of crates.txt.
 USES = """warp_machine warp_host warp_events warp_push warp_pages warp_disk warp_journal warp_clients warp_service warp_prog
-warp_run warp_replica warp_trace warp_room warp_watch warp_hub warp_web warp_record warp_line warp_step warp_tag arrayvec libc
+warp_run warp_clock warp_replica warp_trace warp_room warp_watch warp_hub warp_web warp_record warp_line warp_step warp_tag arrayvec libc
 mio os rtrb thiserror""".split()
 LEAST = 300_000
 # What is built stays here, by a sum of what it is built from.

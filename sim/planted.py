@@ -1,5 +1,5 @@
-"""Faults that are planted, to see that worlds find them: in the machine and what it stands on (`LIBRARY`), and in the shell as
-`src` has it (`SHELL`).
+"""Faults that are planted, to see that worlds find them: in the machine and what it stands on (`LIBRARY`), in the shell as
+`src` has it (`SHELL`), and in what keeps origins by a clock (`KEPT`, which stands last, so that the others keep their numbers).
 
 Each has a name, and places: a file, the text there, and the text with the fault, in which PLANTED is true where this fault
 is asked for. So all of them are built at once. A fault of a shell is planted in its model, not in `warp_host` itself.
@@ -7,6 +7,9 @@ is asked for. So all of them are built at once. A fault of a shell is planted in
 
 MACHINE = "crates/warp_machine/src/"
 PUSH = "crates/warp_push/src/"
+CLOCK = "crates/warp_clock/src/"
+KEEP = "crates/warp_keep/src/"
+ROOM = "crates/warp_room/src/"
 
 LIBRARY = [
     (
@@ -297,5 +300,132 @@ SHELL = [
         "a read that filled its room is the last",
         [("shell.rs", "        seat.may_read = seat.is_closed || conn.up.ready() > 0;",
           "        seat.may_read = seat.is_closed || (conn.up.ready() > 0 && !PLANTED);")],
+    ),
+]
+
+KEPT = [
+    (
+        "what is kept is announced one tick early",
+        [(CLOCK + "closing.rt", "        let bound = Tag::beginning_of(clock.open_from());",
+          "        let bound = Tag::beginning_of(clock.open_from() + u64::from(PLANTED));")],
+    ),
+    (
+        "a tick stays open for one tick more than its grace",
+        [(CLOCK + "clock.rt", "        self.opened.max(counted.saturating_sub(self.grace))",
+          "        self.opened\n            .max(counted.saturating_sub(self.grace + u64::from(PLANTED)))")],
+    ),
+    (
+        "a withdrawal that comes too late is taken",
+        [(KEEP + "judging.rt", "        Record::Withdraw { origin, tag } => is_closed(replica, origin, tag),",
+          "        Record::Withdraw { origin, tag } => !PLANTED && is_closed(replica, origin, tag),")],
+    ),
+    (
+        "an announcement of a client for what is kept is taken",
+        [(KEEP + "judging.rt", "    if is_announcement(record) {", "    if is_announcement(record) && !PLANTED {")],
+    ),
+    (
+        "an announcement forgets the names that are withdrawn",
+        [(KEEP + "closing.rt", "        withdrawn: count_of(counts.withdrawn),",
+          "        withdrawn: count_of(if PLANTED { 0 } else { counts.withdrawn }),"),
+         (KEEP + "closing.rt", "        withdrawn: count_of(all.withdrawn),",
+          "        withdrawn: count_of(if PLANTED { 0 } else { all.withdrawn }),")],
+    ),
+    (
+        "a microstep is given twice",
+        [(KEEP + "stamping.rt", "    replica.find_name(origin, tag).is_none()",
+          "    PLANTED || replica.find_name(origin, tag).is_none()")],
+    ),
+    (
+        "an input goes to the tick that it asked for, also where that is closed",
+        [(KEEP + "stamping.rt", "    let from = later(asked, replica.closed_to(origin));",
+          "    let from = if PLANTED { asked } else { later(asked, replica.closed_to(origin)) };")],
+    ),
+    (
+        "a tick takes one input more",
+        [(KEEP + "stamping.rt", "    let room = most.min(replica.program().form().last_microstep() + 1);",
+          "    let room = (most + u32::from(PLANTED)).min(replica.program().form().last_microstep() + 1);")],
+    ),
+    (
+        "the first tick that is open counts as late",
+        [(KEEP + "judging.rt", "    tag.is_before(replica.closed_to(origin))",
+          "    tag.is_before(replica.closed_to(origin)) || (PLANTED && tag.time() == replica.closed_to(origin).time())")],
+    ),
+    (
+        "a second payload of a kept name is taken",
+        [(KEEP + "judging.rt", "    if differs(replica, record) {", "    if !PLANTED && differs(replica, record) {")],
+    ),
+    (
+        "an input for what is not kept is taken",
+        [(ROOM + "own.rt", "        if !self.keeping.keeps(input.origin) {", "        if !PLANTED && !self.keeping.keeps(input.origin) {")],
+    ),
+    (
+        "the first origin alone is closed",
+        [(ROOM + "own.rt", "        for origin in 0..origins {",
+          "        for origin in 0..origins.min(if PLANTED { 1 } else { origins }) {")],
+    ),
+    (
+        "all origins are closed where some are kept",
+        [(ROOM + "own.rt", "self.keeping.keeps_some() && self.keeping.keeps_all(program)",
+          "self.keeping.keeps_some() && (PLANTED || self.keeping.keeps_all(program))")],
+    ),
+    (
+        "a clock goes back at a restart",
+        [(MACHINE + "ticking.rt", "        self.first = self.first.max(past).max(named);",
+          "        self.first = if PLANTED { 0 } else { self.first.max(past).max(named) };")],
+    ),
+    (
+        "a clock goes on behind a name far ahead",
+        [(MACHINE + "ticking.rt", "        let named = named.min(past.saturating_add(ahead));",
+          "        let named = if PLANTED { named } else { named.min(past.saturating_add(ahead)) };")],
+    ),
+    (
+        "what was announced is announced again at a restart",
+        [(MACHINE + "ticking.rt", "            opened: closed.time(),", "            opened: if PLANTED { 0 } else { closed.time() },"),
+         (MACHINE + "ticking.rt", "            closing: Closing::new(apart(is_joint, kept), closed),",
+          "            closing: Closing::new(\n                apart(is_joint, kept),\n                if PLANTED { Tag::beginning_of(0) } else { closed },\n            ),")],
+    ),
+    (
+        "a clock that is to stand behind a pause jumps",
+        [(CLOCK + "clock.rt", "        if self.pause == Pause::Jump {", "        if PLANTED || self.pause == Pause::Jump {")],
+    ),
+    (
+        "a tick is sent twice",
+        [(MACHINE + "ticking.rt", "        self.next = tick.saturating_add(1);",
+          "        self.next = tick.saturating_add(u64::from(!PLANTED || tick % 5 != 3));")],
+    ),
+    (
+        "ticks that passed while nobody was there are sent",
+        [(MACHINE + "ticking.rt", "        clock.skip_ticks();", "        if !PLANTED {\n            clock.skip_ticks();\n        }")],
+    ),
+    (
+        "a clock that clients ask lags behind",
+        [(MACHINE + "ticking.rt", "        moves::set_clock(&mut self.clients, told);",
+          "        if !PLANTED || told.tick % 4 == 0 {\n            moves::set_clock(&mut self.clients, told);\n        }")],
+    ),
+    (
+        "a host closes what it keeps while its journal can't be written",
+        [(MACHINE + "ticking.rt", " && !self.is_failing && !is_ending", " && (PLANTED || !self.is_failing) && !is_ending")],
+    ),
+    (
+        "a host closes what it keeps while nobody is there",
+        [(MACHINE + "ticking.rt", "        self.conns.known() > 0 &&", "        (PLANTED || self.conns.known() > 0) &&")],
+    ),
+    (
+        "a round waits for good for lines that wait",
+        [(MACHINE + "ticking.rt", "            Some(since) => now.saturating_sub(since) < LONGEST_WAIT,",
+          "            Some(since) => PLANTED || now.saturating_sub(since) < LONGEST_WAIT,")],
+    ),
+    (
+        "the last round is left out",
+        [(CLOCK + "closing.rt", "        clock.is_over() || is_wanted ||", "        (clock.is_over() && !PLANTED) || is_wanted ||")],
+    ),
+    (
+        "an input is told as taken early",
+        [("crates/warp_clients/src/sending.rt", "        if waiting.len <= self.crowd.limit() {",
+          "        if PLANTED || waiting.len <= self.crowd.limit() {")],
+    ),
+    (
+        "what is due when the first client comes is closed behind its lines",
+        [(MACHINE + "ticking.rt", "        if self.wakes() {", "        if self.wakes() && !PLANTED {")],
     ),
 ]

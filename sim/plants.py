@@ -5,7 +5,7 @@ import sys
 import time
 
 import build
-from planted import LIBRARY, SHELL
+from planted import KEPT, LIBRARY, SHELL
 
 # A fault is to be found within so many seeds.
 MOST_SEEDS = 2_000
@@ -23,7 +23,8 @@ ROW = re.compile(r"^\| (\d+) \| [^|]+ \| (\d+) \|", re.MULTILINE)
 
 def numbered():
     """The faults with their numbers, from 1; and whether each is one of the library."""
-    return list(enumerate([(*it, True) for it in LIBRARY] + [(*it, False) for it in SHELL], start=1))
+    places = [(LIBRARY, True), (SHELL, False), (KEPT, True)]
+    return list(enumerate([(*it, is_library) for faults, is_library in places for it in faults], start=1))
 
 
 def edits_of(is_library, asks):

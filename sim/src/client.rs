@@ -2,6 +2,7 @@
 
 use crate::draw::Draw;
 use crate::making::Shape;
+use crate::keeping::KEEPER;
 use crate::oracle::{Record, STOP};
 use crate::talk::{Rights, Subject, Talk, What};
 use crate::tokens::is_lost;
@@ -196,16 +197,16 @@ impl Client {
         )
     }
 
-    /// A drawn tag.
-    fn tag(&mut self) -> (u64, u64) {
-        let time = if self.draw.percent(2) { STOP + 1 + self.draw.below(3) } else { self.draw.below(STOP + 1) };
+    /// A drawn tag, of a program with this stop.
+    fn tag(&mut self, stop: u64) -> (u64, u64) {
+        let time = if self.draw.percent(2) { stop + 1 + self.draw.below(3) } else { self.draw.below(stop + 1) };
         (time, if self.draw.one_in(3) { self.draw.below(4) } else { 0 })
     }
 
-    /// A drawn record.
-    fn record(&mut self) -> Record {
+    /// A drawn record, of a program with this stop.
+    fn record(&mut self, stop: u64) -> Record {
         let origin = if self.draw.percent(3) { self.draw.below(4) } else { self.draw.below(2) };
-        let tag = self.tag();
+        let tag = self.tag(stop);
         match self.draw.below(20) {
             0 | 1 => Record::Withdraw { origin, tag },
             2..=5 => {
@@ -330,8 +331,14 @@ impl World {
     /// A line is said.
     pub fn say(&mut self, client: usize, line: &str, what: What, lines: &mut String) {
         let it = &mut self.clients[client];
-        if let What::Record(record) = what {
-            self.said.insert(record);
+        match what {
+            What::Record(record) => {
+                self.said.insert(record);
+            }
+            What::Send(sent) if it.host == KEEPER && self.plan.is_some() => {
+                self.sends.entry((sent.input, sent.value)).or_default().push(sent.tick);
+            }
+            _ => {}
         }
         lines.push_str(line);
         lines.push('\n');
@@ -447,11 +454,14 @@ impl World {
 
     /// Says a drawn line.
     fn say_one(&mut self, client: usize, lines: &mut String) {
+        if self.plan.is_some() && self.say_input(client, lines) {
+            return;
+        }
         let it = &mut self.clients[client];
         let is_slow = it.nature == Nature::Slow;
         match it.draw.below(100) {
             0..=39 if !is_slow => {
-                let record = it.record();
+                let record = it.record(self.program.stop);
                 self.say(client, &record.line(), What::Record(record), lines);
             }
             40..=44 => {

@@ -2,12 +2,16 @@
 //! does it, and a number in `Kinds` where a world has to have it now and then.
 
 use crate::draw::Draw;
+use crate::keeping::KEEPER;
 use crate::library::Machine;
 use crate::operator::Say;
 use crate::scribe::Stage;
 use crate::world::{Event, World};
 
 const SECOND: u64 = 1_000_000;
+
+/// A host stands still for so long at most, which is too short for others to give it up.
+const LONGEST_STAND: u64 = 4 * SECOND;
 
 /// How a host ends.
 #[derive(Clone, Copy, Debug, PartialEq, Eq)]
@@ -38,10 +42,12 @@ pub enum Fault {
     Jump(usize, u64),
     /// The operator of a host says something.
     Operate(usize, Say),
+    /// A host stands still for so long.
+    Stand(usize, u64),
 }
 
 /// The classes of faults, by which they are switched off.
-pub const CLASSES: [&str; 5] = ["kills", "network", "disks", "clocks", "operators"];
+pub const CLASSES: [&str; 6] = ["kills", "network", "disks", "clocks", "operators", "pauses"];
 
 impl World {
     /// Draws what goes wrong before the calm.
@@ -49,7 +55,8 @@ impl World {
         for class in CLASSES {
             let mut draw = Draw::new(seed, class, 1);
             let most = 1 << draw.range(0, 3);
-            let count = if self.shape.is_fed() { 0 } else { draw.below(most) };
+            let is_other = class == "pauses" && self.plan.is_none();
+            let count = if self.shape.is_fed() || is_other { 0 } else { draw.below(most) };
             for _ in 0..count {
                 let at = SECOND / 2 + draw.below(calm_at - SECOND);
                 let fault = self.draw_fault(class, &mut draw);
@@ -84,6 +91,7 @@ impl World {
             "disks" if draw.one_in(2) => Fault::Full(host, long),
             "disks" => Fault::Fails(host, long),
             "operators" => Fault::Operate(host, Say::draw(draw)),
+            "pauses" => Fault::Stand(if draw.one_in(3) { host } else { KEEPER }, draw.time(LONGEST_STAND)),
             _ => Fault::Jump(host, draw.time(100 * SECOND)),
         }
     }
@@ -108,12 +116,22 @@ impl World {
             Fault::Cut(one, other, long) => self.cut(one, other, self.now + long),
             Fault::Drop(many, is_silent) => self.drop_some(many, is_silent),
             Fault::Operate(host, say) => self.operate(host, say),
+            Fault::Stand(host, long) => self.stand(host, long),
             Fault::Full(host, long) => self.hosts[host].disk.full_until = self.now + long,
             Fault::Fails(host, long) => self.hosts[host].disk.fails_until = self.now + long,
             Fault::Jump(host, by) => {
                 self.hosts[host].clock.ahead += by;
                 self.note_jump(host, by);
             }
+        }
+    }
+
+    /// A host stands still for so long, if it does not already.
+    fn stand(&mut self, host: usize, long: u64) {
+        let it = &mut self.hosts[host];
+        if it.machine.is_some() && it.stands_until <= self.now {
+            it.stands_until = self.now + long;
+            it.stood += long;
         }
     }
 

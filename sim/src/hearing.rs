@@ -219,7 +219,8 @@ impl World {
         if it.nature == Nature::Slow && more > room + most {
             return Some(format!("it read nothing, and then {more} bytes"));
         }
-        it.talk.missing(self.hosts[host].known_mut())
+        let len = self.aim(host);
+        it.talk.missing(len, self.hosts[host].known_mut())
     }
 
     /// How many replies and pushes a client had on its last connection.

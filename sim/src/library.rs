@@ -9,8 +9,8 @@ mod calls {
     unsafe extern "C" {
         pub fn host_open(
             program: *const u8, program_len: usize, keys: *const u8, keys_len: usize, lines: *const u8, lines_len: usize,
-            tokens: *const u8, tokens_len: usize, peers: *const u8, peers_len: usize, clients: u32, now: u64,
-            host: *mut *mut u8,
+            tokens: *const u8, tokens_len: usize, peers: *const u8, peers_len: usize, kept: *const u64, kept_len: usize,
+            clients: u32, now: u64, host: *mut *mut u8,
         ) -> u32;
         pub fn host_drop(host: *mut u8);
         pub fn host_came(host: *mut u8, now: u64, room: *mut u64, room_len: usize) -> u32;
@@ -47,9 +47,6 @@ mod calls {
         pub fn pen_drop(pen: *mut u8);
     }
 }
-
-/// The version of the files of the program, as a form.
-const FORM: u32 = 1;
 
 /// A connection, as a host names it.
 #[derive(Clone, Copy, Debug, PartialEq, Eq)]
@@ -93,6 +90,8 @@ pub struct Start<'a> {
     pub lines: &'a [u8],
     pub tokens: &'a [u8],
     pub peers: &'a [u8],
+    /// The numbers of what it keeps, none where it keeps nothing.
+    pub kept: &'a [u64],
     pub clients: u32,
 }
 
@@ -111,11 +110,11 @@ impl Machine {
     /// A host that begins now; or the number of a fault.
     pub fn open(start: &Start<'_>, now: u64) -> Result<Machine, u32> {
         let mut at = std::ptr::null_mut();
-        let Start { program, keys, lines, tokens, peers, clients } = start;
+        let Start { program, keys, lines, tokens, peers, kept, clients } = start;
         let fault = unsafe {
             calls::host_open(
                 program.as_ptr(), program.len(), keys.as_ptr(), keys.len(), lines.as_ptr(), lines.len(), tokens.as_ptr(),
-                tokens.len(), peers.as_ptr(), peers.len(), *clients, now, &mut at,
+                tokens.len(), peers.as_ptr(), peers.len(), kept.as_ptr(), kept.len(), *clients, now, &mut at,
             )
         };
         if fault == 0 { Ok(Machine { at }) } else { Err(fault) }
@@ -291,21 +290,21 @@ impl Drop for Pen {
 }
 
 impl Pen {
-    /// A journal with this first line, which stands in the file already.
-    pub fn begin(first: &[u8]) -> Pen {
+    /// A journal of a program of this version, with this first line, which stands in the file already.
+    pub fn begin(version: u32, first: &[u8]) -> Pen {
         let mut at = std::ptr::null_mut();
-        let fault = unsafe { calls::pen_begin(FORM, first.as_ptr(), first.len(), 0, &mut at) };
+        let fault = unsafe { calls::pen_begin(version, first.as_ptr(), first.len(), 0, &mut at) };
         assert_eq!(fault, 0, "no memory for a pen");
         Pen { at }
     }
 
     /// What a file with these bytes has of a journal with this first line; `None` where it begins with another.
-    pub fn read(first: &[u8], bytes: &[u8]) -> Option<Found> {
+    pub fn read(version: u32, first: &[u8], bytes: &[u8]) -> Option<Found> {
         let mut at = std::ptr::null_mut();
         let mut room = [0; 3];
         let ending = unsafe {
             calls::pen_read(
-                FORM, first.as_ptr(), first.len(), bytes.as_ptr(), bytes.len(), 0, &mut at, room.as_mut_ptr(), room.len(),
+                version, first.as_ptr(), first.len(), bytes.as_ptr(), bytes.len(), 0, &mut at, room.as_mut_ptr(), room.len(),
             )
         };
         let ending = match ending {

@@ -9,6 +9,8 @@ mod disk;
 mod draw;
 mod faults;
 mod hearing;
+mod inputs;
+mod keeping;
 mod liar;
 mod library;
 mod making;

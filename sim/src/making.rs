@@ -2,7 +2,9 @@
 
 use crate::client::{Client, Nature, Speech};
 use crate::draw::Draw;
+use crate::keeping::{KEEPER, Plan};
 use crate::liar::draw_liar;
+use crate::oracle::{Program, STOP};
 use crate::scribe::{Durable, SyncWhen};
 use crate::shell::Shell;
 use crate::talk::Known;
@@ -62,6 +64,8 @@ impl World {
         let seed = asked.seed;
         let mut draw = Draw::new(seed, "world", 0);
         let shape = Shape::of(seed);
+        let mut own = Draw::new(seed, "keeping", 0);
+        let plan = (shape == Shape::Plain && own.one_in(4)).then(|| Plan::draw(&mut own));
         let count = if shape.is_fed() { 1 } else { draw.range(1, 4) as usize };
         let has_tokens = !shape.is_fed() && draw.one_in(4);
         let calm_at = SECOND * shape.calm_at(&mut draw);
@@ -82,6 +86,10 @@ impl World {
             marks: Vec::new(),
             draws,
             said: BTreeSet::new(),
+            plan,
+            program: plan.map_or(Program { version: 1, stop: STOP, width: shape.width() }, |plan| plan.program),
+            sends: BTreeMap::new(),
+            aims: Vec::new(),
             has_tokens,
             most_clients: if draw.one_in(6) { 4 + count as u32 } else { 64 },
             shape,
@@ -100,7 +108,7 @@ impl World {
             delay,
         };
         world.make_hosts(count, &mut draw);
-        world.make_clients(seed, &mut draw);
+        world.make_clients(seed, &mut draw, &mut own);
         world.make_faults(seed, calm_at, &asked.without);
         world.push(calm_at, Event::Calm);
         world
@@ -114,6 +122,10 @@ impl World {
             let mut peers = if follows_all { others } else { others.into_iter().take(1).collect() };
             if self.shape == Shape::Patient && at == 0 {
                 peers.push(draw_liar(draw));
+            }
+            if self.plan.is_some() && at == KEEPER {
+                // A host with a clock follows nobody.
+                peers.clear();
             }
             let when = match draw.below(10) {
                 0..=6 => SyncWhen::Always,
@@ -133,18 +145,25 @@ impl World {
                 peers,
                 lies: BTreeMap::new(),
                 failures: 0,
-                known: Known::new(self.shape.width()),
+                known: Known::new(self.program),
                 ends_since: None,
                 ends_clock: 0,
                 token_file: TokenFile::Version(0),
                 is_doomed: None,
+                stands_until: 0,
+                stood: 0,
             });
             self.push(1 + draw.below(50_000), Event::Start(at));
+        }
+        if let Some(plan) = self.plan {
+            let keeper = &mut self.hosts[KEEPER];
+            keeper.known.keep(plan, keeper.has_journal);
+            self.kinds.clocks += 1;
         }
     }
 
     /// Makes the clients, who come soon.
-    fn make_clients(&mut self, seed: u64, draw: &mut Draw) {
+    fn make_clients(&mut self, seed: u64, draw: &mut Draw, more: &mut Draw) {
         let most = 1 << draw.range(1, 5);
         let count = match self.shape {
             Shape::Wide | Shape::Long => 3,
@@ -154,6 +173,7 @@ impl World {
         for at in 0..count {
             let own = Draw::new(seed, "client", at as u64);
             let host = draw.below(self.hosts.len() as u64) as usize;
+            let host = if self.plan.is_some() && more.percent(60) { KEEPER } else { host };
             let speech = match draw.below(10) {
                 0..=5 => Speech::Lines,
                 6..=8 => Speech::Web,

@@ -7,8 +7,16 @@ use crate::sha256::front_of;
 use std::collections::BTreeMap;
 use std::rc::Rc;
 
-/// The last time of an event.
+/// The last time of an event, where none is drawn.
 pub const STOP: u64 = 100;
+
+/// What the program is: the version of its file, the last time of an event, and how many variables it has.
+#[derive(Clone, Copy, Debug)]
+pub struct Program {
+    pub version: u32,
+    pub stop: u64,
+    pub width: usize,
+}
 
 /// A time and a microstep.
 pub type Tag = (u64, u64);
@@ -19,18 +27,24 @@ pub enum Record {
     Event { origin: u64, tag: Tag, input: u64, value: i64 },
     Withdraw { origin: u64, tag: Tag },
     Announce { origin: u64, tag: Tag, events: u64, withdrawals: u64 },
+    /// An announcement of all origins together.
+    Joint { tag: Tag, events: u64, withdrawals: u64 },
 }
+
+/// A joint announcement in the place of an origin.
+pub const JOINT: u64 = u64::MAX;
 
 impl Record {
     /// The record of a line.
     pub fn read(line: &str) -> Option<Record> {
         let words: Vec<&str> = line.split(' ').collect();
         let number = |at: usize| words.get(at)?.parse::<u64>().ok();
-        let origin = number(1)?;
+        let origin = if words.get(1) == Some(&"*") { JOINT } else { number(1)? };
         let tag = (number(2)?, number(3)?);
         match (words[0], words.len()) {
             ("event", 6) => Some(Record::Event { origin, tag, input: number(4)?, value: words[5].parse().ok()? }),
             ("withdraw", 4) => Some(Record::Withdraw { origin, tag }),
+            ("announce", 6) if origin == JOINT => Some(Record::Joint { tag, events: number(4)?, withdrawals: number(5)? }),
             ("announce", 6) => Some(Record::Announce { origin, tag, events: number(4)?, withdrawals: number(5)? }),
             _ => None,
         }
@@ -44,6 +58,7 @@ impl Record {
             Record::Announce { origin, tag, events, withdrawals } => {
                 format!("announce {origin} {} {} {events} {withdrawals}", tag.0, tag.1)
             }
+            Record::Joint { tag, events, withdrawals } => format!("announce * {} {} {events} {withdrawals}", tag.0, tag.1),
         }
     }
 
@@ -51,17 +66,18 @@ impl Record {
     pub fn origin(&self) -> u64 {
         match *self {
             Record::Event { origin, .. } | Record::Withdraw { origin, .. } | Record::Announce { origin, .. } => origin,
+            Record::Joint { .. } => JOINT,
         }
     }
 
-    /// Why the program refuses it, if it does.
-    pub fn refusal(&self) -> Option<u64> {
-        if self.origin() > 1 {
+    /// Why a program with this stop refuses it, if it does.
+    pub fn refusal(&self, stop: u64) -> Option<u64> {
+        if self.origin() > 1 && self.origin() != JOINT {
             return Some(2);
         }
         match *self {
-            Record::Event { tag, .. } | Record::Withdraw { tag, .. } if tag.0 > STOP => Some(3),
-            Record::Announce { tag, .. } if tag > (STOP + 1, 0) => Some(3),
+            Record::Event { tag, .. } | Record::Withdraw { tag, .. } if tag.0 > stop => Some(3),
+            Record::Announce { tag, .. } | Record::Joint { tag, .. } if tag > (stop + 1, 0) => Some(3),
             Record::Event { input, .. } if input > 1 => Some(4),
             Record::Event { origin, input, .. } if input != origin => Some(5),
             _ => None,
@@ -112,7 +128,7 @@ fn names_of(records: &[Record]) -> Vec<Name> {
         match *record {
             Record::Event { origin, tag, input, value } => said.push((tag, origin, Some((input, value)))),
             Record::Withdraw { origin, tag } => said.push((tag, origin, None)),
-            Record::Announce { .. } => {}
+            Record::Announce { .. } | Record::Joint { .. } => {}
         }
     }
     said.sort_unstable();
@@ -141,7 +157,7 @@ pub struct State {
     pub outputs: Vec<(Tag, i64)>,
     pub horizon: Tag,
     pub released: usize,
-    /// The broken origins.
+    /// The broken origins, and `JOINT` behind them where an announcement of all is broken.
     pub broken: Vec<u64>,
     reached: [Tag; 2],
     counts: [(u64, u64, Tag); 2],
@@ -157,8 +173,9 @@ fn factor(at: usize) -> i64 {
     1_000_000_007 * (2 * at as i64 + 1)
 }
 
-/// The file of the program with so many variables.
-pub fn program(width: usize) -> String {
+/// The file of the program.
+pub fn file_of(program: &Program) -> String {
+    let Program { version, stop, width } = *program;
     let vars: Vec<String> = (0..width).map(|at| if at == 0 { "[\"total\",0]".into() } else { format!("[\"w{at}\",0]") }).collect();
     let wide: Vec<String> =
         (1..width).map(|at| format!("[\"set\",\"w{at}\",[\"*\",{},\"total\"]],", factor(at))).collect();
@@ -169,7 +186,7 @@ pub fn program(width: usize) -> String {
         )
     };
     format!(
-        "{{\"version\":1,\"stop\":{STOP},\"origins\":2,\"reactors\":[{{\"name\":\"r\",\"vars\":[{}],\
+        "{{\"version\":{version},\"stop\":{stop},\"origins\":2,\"reactors\":[{{\"name\":\"r\",\"vars\":[{}],\
          \"inputs\":[\"a\",\"b\"],\"outputs\":[\"y\"],\"reactions\":[{},{}]}}],\
          \"inputs\":[[0,\"r.a\"],[1,\"r.b\"]],\"outputs\":[\"r.y\"]}}",
         vars.join(","),
@@ -188,18 +205,34 @@ impl State {
         }
         let mut reached = [(0, 0); 2];
         let mut are_broken = [false; 2];
+        let mut is_broken_jointly = false;
         for record in records {
-            let Record::Announce { origin, tag, events, withdrawals } = *record else { continue };
-            let (e, w, doubles) = fronts[origin as usize].below(tag);
-            are_broken[origin as usize] |= e > events || w > withdrawals || doubles > 0;
-            if e >= events && w >= withdrawals {
-                reached[origin as usize] = reached[origin as usize].max(tag);
+            match *record {
+                Record::Announce { origin, tag, events, withdrawals } => {
+                    let (e, w, doubles) = fronts[origin as usize].below(tag);
+                    are_broken[origin as usize] |= e > events || w > withdrawals || doubles > 0;
+                    if e >= events && w >= withdrawals {
+                        reached[origin as usize] = reached[origin as usize].max(tag);
+                    }
+                }
+                Record::Joint { tag, events, withdrawals } => {
+                    let (one, other) = (fronts[0].below(tag), fronts[1].below(tag));
+                    let (e, w, doubles) = (one.0 + other.0, one.1 + other.1, one.2 + other.2);
+                    is_broken_jointly |= e > events || w > withdrawals || doubles > 0;
+                    if e >= events && w >= withdrawals {
+                        reached = reached.map(|own| own.max(tag));
+                    }
+                }
+                Record::Event { .. } | Record::Withdraw { .. } => {}
             }
         }
         let (outputs, total) = run(&names);
         let horizon = reached[0].min(reached[1]);
         let released = outputs.partition_point(|(tag, _)| *tag < horizon);
-        let broken = (0..2).filter(|origin| are_broken[*origin as usize]).collect();
+        let mut broken: Vec<u64> = (0..2).filter(|origin| are_broken[*origin as usize]).collect();
+        if is_broken_jointly {
+            broken.push(JOINT);
+        }
         let counts = [counts_of(&fronts[0]), counts_of(&fronts[1])];
         State { vars: vars_of(total, width), outputs, horizon, released, broken, reached, counts }
     }
@@ -228,16 +261,16 @@ fn counts_of(fronts: &Fronts) -> (u64, u64, Tag) {
 
 /// The log of a host, and what its fronts come to.
 pub struct History {
-    pub width: usize,
+    pub program: Program,
     pub log: Vec<Record>,
     pub places: BTreeMap<Record, u32>,
     states: BTreeMap<u32, Rc<State>>,
 }
 
 impl History {
-    /// An empty log of a program so wide.
-    pub fn new(width: usize) -> History {
-        History { width, log: Vec::new(), places: BTreeMap::new(), states: BTreeMap::new() }
+    /// An empty log of a program.
+    pub fn new(program: Program) -> History {
+        History { program, log: Vec::new(), places: BTreeMap::new(), states: BTreeMap::new() }
     }
 
     /// How many records it has.
@@ -264,7 +297,7 @@ impl History {
         if let Some(state) = self.states.get(&count) {
             return state.clone();
         }
-        let state = Rc::new(State::of(&self.log[..count as usize], self.width));
+        let state = Rc::new(State::of(&self.log[..count as usize], self.program.width));
         if self.states.len() > 1_000 {
             self.states.pop_first();
         }
@@ -335,7 +368,7 @@ impl History {
     pub fn breach(&mut self, count: u32) -> String {
         let mut line = format!("breach {count}");
         for origin in &self.state(count).broken {
-            line.push_str(&format!(" {origin}"));
+            line.push_str(&if *origin == JOINT { " *".to_string() } else { format!(" {origin}") });
         }
         line
     }

@@ -151,7 +151,7 @@ struct Tally {
 }
 
 /// The kinds that are counted, by their names; in how many worlds in a thousand each has to be at least.
-const KINDS: [(&str, u64); 19] = [
+const KINDS: [(&str, u64); 23] = [
     ("a kill", 200),
     ("a kill in mid-write", 20),
     ("a loss of power", 20),
@@ -171,6 +171,10 @@ const KINDS: [(&str, u64); 19] = [
     ("an operator that asks how it is", 20),
     ("tokens that are read again", 20),
     ("a client that loses its token", 2),
+    ("a host that keeps origins by a clock", 20),
+    ("an input or a record that comes too late", 20),
+    ("a restart of a host that keeps origins", 20),
+    ("a clock behind a pause", 20),
 ];
 
 /// How often each kind was there.
@@ -195,6 +199,10 @@ fn counted(kinds: &Kinds) -> [u32; KINDS.len()] {
         kinds.statuses,
         kinds.token_changes,
         kinds.tokens_lost,
+        kinds.clocks,
+        kinds.late,
+        kinds.keeper_restarts,
+        kinds.pauses,
     ]
 }
 

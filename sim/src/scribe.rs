@@ -103,12 +103,14 @@ impl Scribe {
     }
 }
 
-/// The first line of a journal.
-pub const FIRST: &[u8] = b"warpd journal 2 1 0000000000000000000000000000000000000000000000000000000000000000";
+/// The first line of a journal of a program of this version.
+pub fn first_line(version: u32) -> Vec<u8> {
+    format!("warpd journal 2 {version} {:064}", 0).into_bytes()
+}
 
 /// A journal's file that has no record.
-fn begun() -> File {
-    File::of([FIRST, b"\n"].concat())
+fn begun(version: u32) -> File {
+    File::of([&first_line(version)[..], b"\n"].concat())
 }
 
 impl World {
@@ -300,12 +302,13 @@ impl World {
         if self.now < self.hosts[host].disk.full_until {
             return self.pause(host);
         }
+        let version = self.program.version;
         let it = &mut self.hosts[host];
         let mut file = File::default();
-        file.append(&[FIRST, b"\n"].concat());
+        file.append(&[&first_line(version)[..], b"\n"].concat());
         it.disk.fresh = Some(file);
         let scribe = it.scribe.as_mut().expect("it is there");
-        scribe.fresh = Some(Pen::begin(FIRST));
+        scribe.fresh = Some(Pen::begin(version, &first_line(version)));
         scribe.beginnings += 1;
         it.durable.beginnings = scribe.beginnings;
         scribe.stage = Stage::Fills;
@@ -376,16 +379,17 @@ impl World {
     /// Opens the journal of a host that starts: the lines of its records. What a loss of power left behind whole lines is cut
     /// off, also where an operator has to say so.
     pub fn open_journal(&mut self, host: usize) -> Result<String, String> {
+        let version = self.program.version;
         let it = &mut self.hosts[host];
         let bytes = it.disk.file.as_ref().map(File::bytes).unwrap_or_default();
-        let first = [FIRST, b"\n"].concat();
+        let first = [&first_line(version)[..], b"\n"].concat();
         if first.starts_with(&bytes) && bytes.len() < first.len() {
             // A host that ended while the disk failed may have left the only copy: an operator puts it in the place.
             let is_only = it.disk.fresh.as_ref().is_some_and(|fresh| fresh.len() > first.len());
-            it.disk.file = Some(if is_only { it.disk.fresh.take().expect("it is there") } else { begun() });
+            it.disk.file = Some(if is_only { it.disk.fresh.take().expect("it is there") } else { begun(version) });
         }
         let bytes = it.disk.file.as_ref().map(File::bytes).unwrap_or_default();
-        let Some(found) = Pen::read(FIRST, &bytes) else {
+        let Some(found) = Pen::read(version, &first_line(version), &bytes) else {
             return Err("the journal begins with another line".into());
         };
         if found.ending == Ending::Damaged {
@@ -414,12 +418,13 @@ impl World {
     /// Writes the records of a journal once more, to a file that takes its place.
     fn write_again(&mut self, host: usize, lines: &str) -> Pen {
         let second = self.second(host);
-        let mut pen = Pen::begin(FIRST);
+        let first = first_line(self.program.version);
+        let mut pen = Pen::begin(self.program.version, &first);
         for line in lines.lines() {
             pen.take(line, second);
         }
         let (_, bytes) = with_paper(usize::MAX, || pen.write(true, second));
-        self.hosts[host].disk.file = Some(File::of([FIRST, b"\n", &bytes].concat()));
+        self.hosts[host].disk.file = Some(File::of([&first, &b"\n"[..], &bytes].concat()));
         pen
     }
 }

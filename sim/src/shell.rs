@@ -1,6 +1,7 @@
 //! The shell of a host, as `worker.rt` of `warp_host` has it: it tells the machine what came and does what that wants, a round
 //! after another. It has no more of a connection than a socket has: what may be read, what may be written, and its end.
 
+use crate::keeping::{Turn, Whose};
 use crate::liar::LIARS;
 use crate::library::{Action, Machine, PeerNews, Who};
 use crate::operator::Channel;
@@ -197,6 +198,11 @@ impl World {
         if it.epoch != epoch || it.shell.round_at != self.now {
             return;
         }
+        if it.stands_until > self.now {
+            it.shell.round_at = u64::MAX;
+            let until = it.stands_until;
+            return self.begin_round_at(host, until);
+        }
         let Some(mut machine) = it.machine.take() else { return };
         it.shell.round_at = u64::MAX;
         it.shell.is_active = false;
@@ -206,6 +212,7 @@ impl World {
         self.look_at_input(host, &mut machine);
         self.look_at_journal(host, &mut machine);
         let now = self.clock(host);
+        self.turn_kept(host, now);
         let more = machine.turn(now);
         if machine.due() <= now {
             machine.seen(self.hosts[host].durable.synced, 0);
@@ -215,6 +222,7 @@ impl World {
         self.look_at_closed(host);
         self.look_at_late(host);
         self.learn_log(host, &mut machine);
+        self.look_at_kept(host);
         self.hand(host, &mut machine);
         self.hosts[host].shell.has_more = more;
         self.rest(host, machine);
@@ -643,12 +651,44 @@ impl World {
             let Some(record) = Record::read(&line) else {
                 return self.fail(format!("the log of host {host} has {line}"));
             };
+            if let Some(kept) = &mut self.hosts[host].known.kept {
+                match kept.learn(&record, &self.said, &self.sends) {
+                    Ok(Whose::Client) => {}
+                    Ok(Whose::Host) => {
+                        self.said.insert(record);
+                    }
+                    Err(why) => return self.fail(format!("the log of host {host} has {line}; {why}")),
+                }
+            }
             if !self.said.contains(&record) {
                 return self.fail(format!("the log of host {host} has what nobody said: {line}"));
             }
             if !self.hosts[host].known_mut().history.push(record) {
                 return self.fail(format!("the log of host {host} has twice: {line}"));
             }
+        }
+    }
+
+    /// A host that keeps origins turns: its clock goes on.
+    fn turn_kept(&mut self, host: usize, local: u64) {
+        let has_tokens = self.has_tokens;
+        let it = &mut self.hosts[host];
+        let may_say = !it.shell.is_told_failing && it.ends_since.is_none();
+        let count = it.shell.count();
+        let Some(kept) = &mut it.known.kept else { return };
+        let pauses = kept.ticker.pauses;
+        let somebody = if count > 0 && has_tokens { None } else { Some(count > 0) };
+        kept.turn(Turn { local, somebody, may_say });
+        self.kinds.pauses += kept.ticker.pauses - pauses;
+    }
+
+    /// Looks at what a host that keeps origins said, and was to say.
+    fn look_at_kept(&mut self, host: usize) {
+        let known = &mut self.hosts[host].known;
+        let Some(kept) = &mut known.kept else { return };
+        let looked = kept.look().and_then(|()| kept.look_at_released(&mut known.history));
+        if let Err(why) = looked {
+            self.fail(format!("host {host}: {why}"));
         }
     }
 

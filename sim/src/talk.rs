@@ -1,6 +1,7 @@
 //! A conversation of lines with a host: what was asked, and whether each reply and each push is one that may come.
 
-use crate::oracle::{History, Record};
+use crate::keeping::{Kept, Plan, Sent};
+use crate::oracle::{History, Program, Record};
 use crate::tokens::rights_in;
 use std::collections::{BTreeMap, BTreeSet, VecDeque};
 
@@ -18,25 +19,39 @@ pub struct Known {
     pub failures: u32,
     /// How many times the host began anew, and with how many records the last time.
     begins: u32,
-    kept: u32,
+    kept_count: u32,
     /// The versions of its tokens, in the order in which they were read; none where it has none.
     pub versions: Vec<usize>,
+    /// What it keeps, and how many inputs and records of clients came too late for that.
+    pub kept: Option<Kept>,
+    pub late: u32,
+    /// What is released stays, also when it begins anew.
+    is_final: bool,
 }
 
 impl Known {
-    /// Nothing was said of a program so wide.
-    pub fn new(width: usize) -> Known {
+    /// Nothing was said of a program.
+    pub fn new(program: Program) -> Known {
         Known {
-            history: History::new(width),
+            history: History::new(program),
             told: 0,
             taken: BTreeSet::new(),
             shown: BTreeMap::new(),
             is_failing: false,
             failures: 0,
             begins: 0,
-            kept: 0,
+            kept_count: 0,
             versions: Vec::new(),
+            kept: None,
+            late: 0,
+            is_final: false,
         }
+    }
+
+    /// It keeps origins by this plan. Where it keeps all, and has a journal, what is released stays for good.
+    pub fn keep(&mut self, plan: Plan, has_journal: bool) {
+        self.is_final = plan.keeps_all() && has_journal;
+        self.kept = Some(Kept::new(plan));
     }
 
     /// The version of its tokens, and where it stands among those that were read.
@@ -56,11 +71,23 @@ impl Known {
     /// The host begins anew, with the first so many records of its log.
     pub fn begin_anew(&mut self, count: u32) {
         self.begins += 1;
-        self.kept = count;
+        self.kept_count = count;
         self.told = self.told.min(count);
         self.taken.retain(|place| *place <= count);
-        self.shown.clear();
+        if !self.is_final {
+            self.shown.clear();
+        }
         self.history.cut(count);
+    }
+
+    /// Whether it began more than once.
+    pub fn has_begun_anew(&self) -> bool {
+        self.begins > 1
+    }
+
+    /// The length of the log up to which a line may be answered by what was there when it was said.
+    fn front_of(&self, asked: &Asked) -> u32 {
+        if asked.begins == self.begins { asked.len } else { asked.len.min(self.kept_count) }
     }
 
     /// Notes that this released output was shown, which is shown so each time.
@@ -124,6 +151,10 @@ pub enum What {
     Row,
     Releases,
     Release(u32),
+    /// An input without a tag.
+    Send(Sent),
+    Clock,
+    Keeps,
     /// What is refused with this number, whatever is there.
     Bad(u32),
 }
@@ -148,6 +179,9 @@ impl Rights {
             (_, Rights::Unknown) => false,
             (What::Record(_), Rights::Read) => false,
             (What::Record(record), Rights::Origin(origin)) => record.origin() == *origin,
+            // The program's inputs are looked at first.
+            (What::Send(sent), Rights::Read) => sent.input > 1,
+            (What::Send(sent), Rights::Origin(origin)) => sent.input == *origin || sent.input > 1,
             (_, Rights::Read) => line != "collect",
             (_, Rights::Origin(_)) => true,
         }
@@ -177,6 +211,9 @@ struct Asked {
     version: usize,
     /// With how many bytes of its connection it ends; 0 while that is not known.
     end: u64,
+    /// How long the log was, and how many turns of a clock had told something new.
+    len: u32,
+    turns: usize,
 }
 
 /// How far a watch is.
@@ -242,6 +279,8 @@ impl Talk {
             begins: known.begins,
             version: known.last_version(),
             end,
+            len: known.history.len(),
+            turns: known.kept.as_ref().map_or(0, Kept::turns),
         });
     }
 
@@ -288,7 +327,7 @@ impl Talk {
             return Err(format!("a reply to nothing: {}", short(text)));
         };
         if asked.begins != known.begins {
-            asked.floor = asked.floor.min(known.kept);
+            asked.floor = asked.floor.min(known.kept_count);
         }
         self.replies += 1;
         let heard = self.hear_reply(&asked, text, limit, known);
@@ -320,12 +359,15 @@ impl Talk {
                 self.same(text, &format!("watching {}", self.watches.len()))
             }
             What::Token(token) => self.hear_rights(token, asked.version, text, known),
-            What::Program if text.starts_with("program 1 ") => Ok(()),
+            What::Program if text.starts_with(&format!("program {} ", known.history.program.version)) => Ok(()),
             What::Names if text.starts_with("names {") => Ok(()),
             What::Board if text.starts_with("board ") => Ok(()),
             What::Row if text.starts_with("row ") || text == "none" => Ok(()),
             What::Releases => self.hear_releases(asked, text, limit, known),
             What::Release(at) => self.hear_release(asked, *at, text, limit, known),
+            What::Send(sent) => self.hear_sent(asked, sent, text, refused, limit, known),
+            What::Clock => self.hear_clock(asked, text, known),
+            What::Keeps => self.same(text, known.kept.as_ref().map_or("keeps", |kept| kept.plan.told())),
             _ => Err("no such answer".into()),
         }
     }
@@ -380,8 +422,17 @@ impl Talk {
             let may_fail = asked.was_failing || known.is_failing || asked.failures != known.failures;
             return if may_fail { Ok(()) } else { Err("its journal can be written".into()) };
         }
-        if let Some(number) = record.refusal() {
+        if let Some(number) = record.refusal(known.history.program.stop) {
             return self.same(text, &format!("refused {number}"));
+        }
+        let there = known.history.places.get(record).copied();
+        let front = known.front_of(asked);
+        if known.kept.as_ref().is_some_and(|kept| !kept.is_refused_so(record, refused, front, there)) {
+            return Err("what is kept wants another answer".into());
+        }
+        if refused.is_some() {
+            known.late += u32::from(refused == Some(16));
+            return if known.kept.is_some() { Ok(()) } else { Err("it is to be taken".into()) };
         }
         let place = number(text, 1)?;
         if place == 0 || known.history.log.get(place as usize - 1) != Some(record) {
@@ -399,6 +450,48 @@ impl Talk {
             return Err("that place was taken by another".into());
         }
         self.same(text, &format!("taken {place}"))
+    }
+
+    /// An input without a tag was answered.
+    fn hear_sent(
+        &mut self,
+        asked: &Asked,
+        sent: &Sent,
+        text: &str,
+        refused: Option<u32>,
+        limit: u32,
+        known: &mut Known,
+    ) -> Result<(), String> {
+        if sent.input > 1 {
+            return self.same(text, "refused 4");
+        }
+        if refused == Some(14) {
+            let may_fail = asked.was_failing || known.is_failing || asked.failures != known.failures;
+            return if may_fail { Ok(()) } else { Err("its journal can be written".into()) };
+        }
+        let (front, len) = (known.front_of(asked), known.history.len());
+        let is_same = asked.begins == known.begins;
+        let Some(kept) = &known.kept else { return self.same(text, "refused 15") };
+        if let Some(number) = refused {
+            return kept.hear_unsent(number, sent, front, len, if is_same { asked.turns } else { 0 });
+        }
+        let (place, tag) = (number(text, 1)?, (number(text, 2)?.into(), number(text, 3)?.into()));
+        let record = known.history.log.get((place as usize).wrapping_sub(1));
+        known.late += u32::from(kept.hear_sent(record, sent, place, tag)?);
+        self.tell(place, asked.floor + 1, limit, known)?;
+        if !known.taken.insert(place) {
+            return Err("that place was taken by another".into());
+        }
+        self.same(text, &format!("sent {place} {} {}", tag.0, tag.1))
+    }
+
+    /// What the clock says was told.
+    fn hear_clock(&mut self, asked: &Asked, text: &str, known: &Known) -> Result<(), String> {
+        match &known.kept {
+            None => self.same(text, "refused 1"),
+            Some(_) if asked.begins != known.begins => Ok(()),
+            Some(kept) => kept.hear_clock(text, asked.turns),
+        }
     }
 
     /// A query was answered.
@@ -526,12 +619,11 @@ impl Talk {
         self.same(push, &expected)
     }
 
-    /// What is missing at the end, where all is told and read.
-    pub fn missing(&self, known: &mut Known) -> Option<String> {
+    /// What is missing at the end, where all of so long a log is told and read.
+    pub fn missing(&self, len: u32, known: &mut Known) -> Option<String> {
         if let Some(asked) = self.asked.front() {
             return Some(format!("no reply came to: {}", asked.line));
         }
-        let len = known.history.len();
         let state = known.history.state(len);
         for (subject, watch) in &self.watches {
             let is_there = match subject {
@@ -540,7 +632,7 @@ impl Talk {
                 Subject::Steps => true,
                 _ => {
                     let expected = value_at(*subject, len, known);
-                    watch.value.as_deref() == Some(expected.splitn(3, ' ').nth(2).unwrap_or(""))
+                    watch.len > len || watch.value.as_deref() == Some(expected.splitn(3, ' ').nth(2).unwrap_or(""))
                 }
             };
             if !is_there {

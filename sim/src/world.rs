@@ -3,11 +3,12 @@
 use crate::client::{Client, Nature, Speech};
 use crate::draw::Draw;
 use crate::faults::{Fault, Kill};
+use crate::keeping::{KEEPER, Plan, Sends};
 use crate::liar::{LIARS, Lies, name_of};
 use crate::library::{Machine, Start, used};
 use crate::operator::Say;
 use crate::making::Shape;
-use crate::oracle::{Record, program};
+use crate::oracle::{Program, Record, file_of};
 use crate::scribe::{Durable, Scribe, SyncWhen, is_kept};
 use crate::shell::Shell;
 use crate::talk::Known;
@@ -111,6 +112,9 @@ pub struct Host {
     pub token_file: TokenFile,
     /// It is killed so within its next write.
     pub is_doomed: Option<Kill>,
+    /// It stands still until then, and did so for so long since it began.
+    pub stands_until: u64,
+    pub stood: u64,
 }
 
 /// How often what a world may have was there.
@@ -136,6 +140,10 @@ pub struct Kinds {
     pub lies: u32,
     pub cuts: u32,
     pub resets: u32,
+    pub clocks: u32,
+    pub late: u32,
+    pub keeper_restarts: u32,
+    pub pauses: u32,
     pub replies: u64,
     pub pushes: u64,
     pub records: u64,
@@ -167,6 +175,12 @@ pub struct World {
     pub marks: Vec<VecDeque<(u64, u32)>>,
     pub draws: Draws,
     pub said: BTreeSet<Record>,
+    /// What the host keeps that keeps origins, if there is one, and what clients sent it without a tag.
+    pub plan: Option<Plan>,
+    pub sends: Sends,
+    pub program: Program,
+    /// In the calm of a world with a clock, whose log may grow on: so long a log of each host is to be told to all.
+    pub aims: Vec<u32>,
     pub has_tokens: bool,
     /// So many clients a host has at most: few in some worlds.
     pub most_clients: u32,
@@ -284,13 +298,16 @@ impl World {
 
     /// What a host tells its operator.
     pub fn hear_note(&mut self, host: usize, text: String) {
-        if let Some(at) = text.find("program 1 ") {
+        if let Some(at) = text.find(&format!("program {} ", self.program.version)) {
             self.identity = text[at..].split(';').next().unwrap_or("").to_string();
         }
         if text.starts_with("peer liar") {
             self.hear_of_liar(host, &text);
         } else if text.contains(": its record at place") || text.contains(" differs: ") {
             // Each record of a peer is taken, so a log as long has no other ones.
+            self.fail(format!("host {host} tells: {text}"));
+        }
+        if text.starts_with("kept origins: ") {
             self.fail(format!("host {host} tells: {text}"));
         }
         self.kinds.gone_slow += u32::from(text.contains("they read too slowly"));
@@ -370,6 +387,10 @@ impl World {
             let Some(record) = Record::read(line) else { continue };
             it.known.history.push(record);
         }
+        if let Some(kept) = &mut it.known.kept {
+            kept.begin(&it.known.history.log, it.clock.at(self.now));
+            self.kinds.keeper_restarts += u32::from(it.epoch > 1);
+        }
         if is_shorter && self.hosts.iter().any(|other| other.peers.contains(&host)) {
             self.kinds.rolls_of_peers += 1;
         }
@@ -387,7 +408,9 @@ impl World {
         let mut bytes = [0; 16];
         bytes[..8].copy_from_slice(&keys[0].to_le_bytes());
         bytes[8..].copy_from_slice(&keys[1].to_le_bytes());
-        let (program, peers) = (program(self.shape.width()), peers.concat());
+        let (program, peers) = (file_of(&self.program), peers.concat());
+        let kept = self.plan.filter(|_| host == KEEPER).map_or(Vec::new(), |plan| plan.numbers());
+        self.aims.clear();
         let version = self.begin_tokens(host);
         let start = Start {
             program: program.as_bytes(),
@@ -395,6 +418,7 @@ impl World {
             lines: lines.as_bytes(),
             tokens: if self.has_tokens { VERSIONS[version].as_bytes() } else { b"" },
             peers: peers.as_bytes(),
+            kept: &kept,
             clients: self.most_clients,
         };
         let now = self.clock(host);
@@ -403,6 +427,7 @@ impl World {
                 let it = &mut self.hosts[host];
                 it.machine = Some(machine);
                 it.ends_since = None;
+                (it.stands_until, it.stood) = (0, 0);
                 it.shell = Shell::new(it.peers.len(), count);
                 self.note(&format!("started with {count} records"), host);
                 self.wake_worker(host);
@@ -473,8 +498,14 @@ impl World {
             if host.machine.is_none() {
                 return Some(format!("host {at} does not run"));
             }
-            if self.limit(at) < host.known.history.len() {
-                return Some(format!("host {at} may tell of {} records of {}", self.limit(at), host.known.history.len()));
+            if self.limit(at) < self.aim(at) {
+                return Some(format!("host {at} may tell of {} records of {}", self.limit(at), self.aim(at)));
+            }
+            if self.plan.is_some() {
+                if let Some(why) = self.lag(at) {
+                    return Some(why);
+                }
+                continue;
             }
             if host.known.history.digest() != self.hosts[0].known.history.digest() {
                 let (first, here) = (self.hosts[0].known.history.len(), host.known.history.len());
@@ -485,8 +516,33 @@ impl World {
         waits.map(|client| format!("it waits: {}", client.waits_for()))
     }
 
+    /// So long a log of a host is to be told to all.
+    pub fn aim(&self, host: usize) -> u32 {
+        self.aims.get(host).copied().unwrap_or(self.hosts[host].known.history.len())
+    }
+
+    /// What a host lacks of those that it follows, where one of them keeps origins and follows nobody.
+    fn lag(&self, host: usize) -> Option<String> {
+        let places = &self.hosts[host].known.history.places;
+        for peer in self.hosts[host].peers.iter().filter(|peer| **peer < LIARS) {
+            let it = &self.hosts[*peer];
+            if !it.has_journal && it.known.has_begun_anew() {
+                // It lost what others have: who followed it goes on where that was, and may never ask for what came there since.
+                continue;
+            }
+            let log = &it.known.history.log[..self.aim(*peer) as usize];
+            if let Some(record) = log.iter().find(|record| !places.contains_key(record)) {
+                return Some(format!("host {host} lacks of host {peer}: {}", record.line()));
+            }
+        }
+        None
+    }
+
     /// Looks whether all is at rest and told.
     fn look(&mut self) {
+        if self.plan.is_some() && self.aims.is_empty() && self.hosts.iter().all(|host| host.machine.is_some()) {
+            self.aims = self.hosts.iter().map(|host| host.known.history.len()).collect();
+        }
         let mut why = self.unrest();
         if why.is_none() {
             why = (0..self.clients.len()).find_map(|client| {
@@ -508,6 +564,7 @@ impl World {
             self.kinds.replies += replies;
             self.kinds.pushes += pushes;
         }
+        self.kinds.late = self.hosts[KEEPER].known.late;
         self.kinds.records = u64::from(self.hosts[0].known.history.len());
         self.note("the end", 0);
     }
@@ -519,10 +576,11 @@ impl World {
         let took = it.ends_since.map_or(u64::MAX, |(since, _)| self.now - since);
         let may_write = it.has_journal && !it.durable.is_failing && !it.disk.fails(self.now) && it.disk.full_until <= self.now;
         let waited = self.clock(host) - it.ends_clock;
+        let most = LONGEST_END + it.stood;
         if it.ends_since.is_some() && it.shell.count() > 0 && waited < FEWEST_WAIT && !it.durable.has_failed {
             self.fail(format!("host {host} has ended {waited} microseconds behind its stop, and not let its clients go"));
         }
-        if took > LONGEST_END {
+        if took > most {
             self.fail(format!("host {host} took {took} microseconds to end"));
         }
         self.stop_host(host, false);
