@@ -13,15 +13,25 @@ sys.path[:0] = [str(ROOT / "clients" / "python"), str(ROOT / ".ci")]
 from client_replies import NAMES, ended, raises, refusal, scripted  # noqa: E402
 from hosting import begun  # noqa: E402
 from loopback import SECONDS, wait_for  # noqa: E402
-from warpd import Client, Ended, HostClient, HostClock, Sent, Tag  # noqa: E402
+from warpd import Client, Ended, HostClient, HostClock, Seat, SeatState, Sent, Tag  # noqa: E402
 
+SECRET = b"0123456789abcdef0123456789abcdef"
 # What no host says of these.
 NO_REPLIES = {
     "send": (b"taken 1", b"known 1", b"sent 0 5 0", b"sent 1 5", b"sent 1 5 256", b"sent 1 15625001 0", b"sent 1 5 0 0", b"none 0"),
     "keeps": (b"keeps *", b"keeps 64", b"keeps 0 x", b"keeps all 0", b"keeps" + b" 0" * 65, b"clock 1 2 3", b"none 0"),
     "clock": (b"clock", b"clock 1 2", b"clock 1 2 0", b"clock 1 2 1001", b"clock -1 2 3", b"clock 1 2.5 3", b"keeps all", b"none"),
+    "join": (b"taken 1", b"seat", b"seat 0", b"seat 64 " + SECRET, b"seat 0 " + SECRET[1:], b"seat 0 " + SECRET.upper(), b"seat 0 " + SECRET + b" 1",
+             b"seat 0 " + SECRET + b" 1 10000001", b"seat 0 " + SECRET + b" 1 2 3"),
+    "leave": (b"seat 0 " + SECRET, b"taken 1", b"none 0"),
+    "free 0": (b"left 0", b"taken 1"),
 }
-CALLS = {"send": lambda it: it.send("r.a", 3), "keeps": HostClient.keeps, "clock": lambda it: it.clock.now()}
+CALLS = {
+    "send": lambda it: it.send("r.a", 3), "keeps": HostClient.keeps, "clock": lambda it: it.clock.now(),
+    "join": HostClient.join, "leave": HostClient.leave, "free 0": lambda it: it.free(0),
+}
+# Pushes that say of no seats who sits there.
+NO_SEATS = (b"seats 0", b"seats 0 gone", b"seats 64 free", b"seats 0 free 1", b"seats free 0", b"seats -1 free")
 
 
 @contextmanager
@@ -132,6 +142,41 @@ def clocks_by_hand():
     assert shown(4.1) == 287
 
 
+def seats():
+    """Each client that joins has a seat of its own, to which it comes back where it connects anew; who watches knows who sits where."""
+    with kept("--clock", "50", "--grace", "5", "--seats", "all") as host, HostClient(*host.address) as it, HostClient(*host.address) as other:
+        rows = other.watch("seats")
+        assert next(rows) == other.seats == (SeatState(0, "free"), SeatState(1, "free"))
+        assert it.seat is None and refusal(lambda: it.send("r.a", 3)) == (20, "send 0 3")
+        seat = it.join()
+        assert (seat.origin, seat.count, seat.last, it.seat) == (0, 0, 0, seat) and len(seat.secret) == 32
+        assert next(rows) == (SeatState(0, "taken"), SeatState(1, "free"))
+        first = it.send("r.a", 3)
+        assert refusal(it.join) == (20, "join") and refusal(lambda: it.send("r.b", 3)) == (20, "send 1 3") and it.seat == seat
+        it.reconnect()
+        assert it.seat == Seat(0, seat.secret, 1, first.place) and it.send("r.a", 4).tag > first.tag
+        # On another page the seat is that one's; the former client is closed, and may come back in its turn.
+        with HostClient(*host.address) as page:
+            assert page.back(seat.secret)[:3] == (0, seat.secret, 2) and page.send("r.a", 5).tag > first.tag
+            assert raises(Ended, lambda: it.send("r.a", 6))
+            page.leave()
+            assert page.seat is None and refusal(page.leave) == (20, "leave") and refusal(lambda: page.back(seat.secret)) == (20, f"back {seat.secret}")
+            assert page.join().secret != seat.secret
+            # What nobody has any more is not there where a client connects anew.
+            it.reconnect()
+            assert it.seat is None and it.join().origin == 1
+            other.free(0)
+            assert refusal(lambda: page.send("r.a", 1)) == (20, "send 0 1")
+            assert refusal(lambda: other.free(7)) == (20, "free 7")
+        while other.seats != (SeatState(0, "free"), SeatState(1, "taken")):
+            next(rows)
+        other.unwatch("seats")
+        assert raises(ValueError, lambda: other.watch("seats", 1))
+    with begun("--clock", "50") as host, HostClient(*host.address) as it:
+        assert [refusal(call) for call in (it.join, it.leave, lambda: it.free(0))] == [(1, "join"), (1, "leave"), (1, "free 0")]
+        assert refusal(lambda: it.watch("seats")) == (1, "watch seats")
+
+
 def kept_malformed():
     """What is no answer to these words ends a client in words; over a lost connection nothing is sent again."""
     for word, replies in NO_REPLIES.items():
@@ -139,8 +184,11 @@ def kept_malformed():
             with HostClient(*scripted(NAMES, reply + b"\n"), timeout=SECONDS) as it:
                 told = ended(lambda: CALLS[word](it))
                 assert told.startswith(f"no reply to '{word}") and raises(Ended, it.horizon), (reply, told)
+    for push in NO_SEATS:
+        with HostClient(*scripted(NAMES, b"* " + push + b"\n"), timeout=SECONDS) as it:
+            assert ended(it.horizon).startswith("no push: "), push
     with HostClient(*scripted(NAMES), timeout=SECONDS) as it:
         assert raises(Ended, lambda: it.send("r.a", 3))
 
 
-CASES = (sends, sends_refused, nobody_holds_up, clocks, clocks_by_hand, kept_malformed)
+CASES = (sends, sends_refused, nobody_holds_up, clocks, clocks_by_hand, seats, kept_malformed)

@@ -10,8 +10,8 @@ from pathlib import Path
 
 from browsing import Keys
 from host_clock import STAND, counts
-from loopback import HOST, holds, same
-from warpd import HostClient
+from loopback import HOST, Wrong, holds, same
+from warpd import HostClient, Refused
 
 ROOT = Path(__file__).resolve().parent.parent
 ROWS = "return [...document.querySelectorAll('[data-of-clock]')].map(it => it.hidden)"
@@ -88,9 +88,32 @@ def page_of_some_kept(browser, hosted):
         browser.is_quiet()
 
 
+def page_of_seats(browser, hosted):
+    """The page of a host with seats says who sits where, as it changes, and how often somebody sent without one; one of a host without seats
+    says nothing of them."""
+    hides = "return document.getElementById('seats').parentElement.hidden"
+    with tempfile.TemporaryDirectory() as folder, opened(browser, hosted, "--clock", "50", "--seats", "all", program=counts(folder)) as host:
+        browser.wait_text("seats", "origin 0 free, origin 1 free")
+        same(browser.run(hides), False, "what is of seats")
+        talk, other = host.talk(), host.talk()
+        holds(talk.ask("join").startswith("seat 0 "), "a seat")
+        browser.wait_text("seats", "origin 0 taken, origin 1 free")
+        same(other.ask("send 0 1"), "refused 20", "who sits nowhere")
+        browser.wait_text("refused", "1 without a seat")
+        talk.close()
+        browser.wait_text("seats", "origin 0 away, origin 1 free")
+        same(other.ask("free 0"), "freed 0", "who may all frees it")
+        browser.wait_text("seats", "origin 0 free, origin 1 free")
+        browser.is_quiet()
+    with opened(browser, hosted):
+        browser.wait("return document.getElementById('state').textContent === 'open'", "the page is connected")
+        same(browser.run(hides), True, "what is of seats")
+        browser.is_quiet()
+
+
 def game_in_ten_minutes(browser, hosted):
-    """The guide's game, as it is typed there: a key moves a player in both tabs, and coins become final for all, also while a tab stands
-    still, and when it is gone. A cheat is refused, which the host's page tells, and changes nothing."""
+    """The guide's game, as it is typed there: each tab has a player, which it has again where it is loaded anew; a key moves it in both, and coins
+    become final for all, also while a tab stands still, and when it is gone. A cheat is refused, which the host's page tells, and changes nothing."""
     text = (ROOT / "docs" / "guide" / "game.md").read_text()
     laying, program, compiling, page, starting = re.findall(r"^```\w*\n(.*?)^```$", text, re.M | re.S)[:5]
     holds(page.split("<script")[1].count("\n") < 60, "the page's client has at most 60 lines")
@@ -110,9 +133,10 @@ def game_in_ten_minutes(browser, hosted):
 
 def play_coins(browser, host):
     with browser.tab() as (ann, ben), HostClient(HOST, host.port) as other:
-        for tab, name in ((ben, "ben"), (ann, "ann")):
+        for tab, name in ((ann, "ann"), (ben, "ben"), (ann, "ann")):
             browser.driver.switch_to.window(tab)
-            browser.open(f"http://{HOST}:{host.port}/site/#{name}")
+            # The first comes once more: it has its seat again.
+            browser.open(f"http://{HOST}:{host.port}/site/")
             browser.wait_text("who", name)
             browser.wait_text("state", "open")
         fetch(browser, other, "ann")
@@ -138,7 +162,8 @@ def play_coins(browser, host):
         same_coins(browser, other, (ann,))
         browser.is_quiet()
         browser.open(f"http://{HOST}:{host.port}/")
-        browser.wait_text("refused", "2 not for the client to say, 2 late")
+        browser.wait_text("refused", "2 not for the client to say, 2 late, 1 without a seat")
+        browser.wait_text("seats", "origin 1 away, origin 2 free")
         browser.is_quiet()
 
 
@@ -147,6 +172,12 @@ def cheat(other):
     late = f"event 2 0 0 {other.names.input('coins.benSteers')} -1"
     refused = other.many(["announce 2 15000000 0 0 0", "withdraw 1 0 0", late, "announce * 15000000 0 0 0"])
     same([it.number for it in refused], [15, 16, 16, 15], "what a cheat is told")
+    try:
+        other.send("coins.benSteers", -1)
+    except Refused as refusal:
+        same(refusal.number, 20, "who moves another's player")
+    else:
+        raise Wrong("who sits nowhere moves a player")
     same([other.breach(it).broken for it in (0, 1, 2, "*")], [False] * 4, "nothing is broken")
 
 
@@ -171,4 +202,4 @@ def fetch(browser, other, name):
     browser.wait(f"return Number(document.getElementById('horizon').textContent) > {ahead}", "the horizon goes on")
 
 
-CASES = (page_of_a_clock, page_of_some_kept, game_in_ten_minutes)
+CASES = (page_of_a_clock, page_of_some_kept, page_of_seats, game_in_ten_minutes)

@@ -485,14 +485,14 @@ def followed(name, *calls, program=PROGRAM, hello=HELLO):
 
 
 def watched(place, check=(), host=HOST):
-    """A host is found, and followed from this place on."""
-    return [(host, check[0] if check else f"watch log {place}"), *([(check[1], f"watch log {place}")] if check else []),
+    """A host is found that keeps nothing, and followed from this place on."""
+    return [(host, "keeps"), ("peer keeps", check[0] if check else f"watch log {place}"), *([(check[1], f"watch log {place}")] if check else []),
             ("peer watching 1", f"found at {place}, true")]
 
 
 def following():
     had = [*watched(1), (f"peer * log 1 {FIVE}", FIVE), ("answer taken 1",), (f"peer * log 2 {SIX}", SIX)]
-    yield followed("a host, that is lost and found, and refused records", *had, ("lose", "over"), HELLO, (HOST, "log 2"), ("answer taken 2",),
+    yield followed("a host, that is lost and found, and refused records", *had, ("lose", "over"), HELLO, (HOST, "keeps"), ("peer keeps", "log 2"), ("answer taken 2",),
         (f"peer log 2 {SIX}", "watch log 2"), ("peer watching 1", "found at 2, true"), (f"peer * log 2 {SIX}", SIX),
         (f"peer * log 3 {NONE}", NONE), ("answer known 2",), ("answer refused 3", "refused 3 at 3"), (f"peer * log 4 {FIVE}", FIVE),
         ("answer refused 3",), (f"peer * log 5 {SIX}", SIX), ("answer refused 2", "refused 2 at 5"), (f"peer * log 7 {NONE}", "strange", "over"),
@@ -502,7 +502,7 @@ def following():
                        (f"peer * log 1 {SIX}", SIX))
     yield followed("a host whose records find no memory", *had, ("answer refused 8", "no memory", "over"), HELLO,
                    *watched(2, ("log 2", f"peer log 9 {SIX}")))
-    yield followed("pieces of lines", HELLO, (HOST, "watch log 1"), ("part watch",), ("peer ing 5", "found at 1, true"), ("part * lo",),
+    yield followed("pieces of lines", HELLO, (HOST, "keeps"), ("part kee",), ("peer ps", "watch log 1"), ("part watch",), ("peer ing 5", "found at 1, true"), ("part * lo",),
                    ("part g 1 ",), (f"peer {FIVE}", FIVE), (f"part {'x' * 100}",), (f"peer {'x' * 28}", "strange", "over"), HELLO,
                    (f"part {'x' * 100}",), (f"peer {'x' * 29}", "strange", "over"))
     serve = [(SERVE, "found at 1, false", "log 1")]
@@ -517,19 +517,35 @@ def following():
     yield followed("a serve that is busy", *serve, ("peer refused 10", "strange", "over"), HELLO, *serve, ("peer none 1", "strange", "over"))
     for other in ("program 1 there", "program 2 here", "program 1 here and there"):
         yield followed(f"no token for a host of {other}", (f"peer {other}", "another program", "over"), ("lose", "over"), program=BEHIND)
-    shown, may = (HOST, "token secret"), ("peer may 0 1", "watch log 1")
-    yield followed("a token behind the program", shown, may, ("peer watching 1", "found at 1, true"), (f"peer * log 1 {FIVE}", FIVE), HELLO, shown,
-                   ("peer may *", "log 1"), ("peer refused 13", "not allowed", "over"), HELLO, shown, ("peer refused 13", "not allowed", "over"),
+    shown, may, keeps = (HOST, "token secret"), ("peer may 0 1", "keeps"), ("peer keeps", "watch log 1")
+    yield followed("a token behind the program", shown, may, keeps, ("peer watching 1", "found at 1, true"), (f"peer * log 1 {FIVE}", FIVE), HELLO, shown,
+                   ("peer may *", "keeps"), ("peer refused 1", "log 1"), ("peer refused 13", "not allowed", "over"), HELLO, shown, ("peer refused 13", "not allowed", "over"),
                    *(call for text in ("may", "refused 1", "watching 1", "") for call in (HELLO, shown, (f"peer {text}", "strange", "over"))),
                    HELLO, ("peer refused 13", "its program is not told", "over"), HELLO, (SERVE, "log 1"), program=BEHIND)
     said = ("connect", "token secret", "program")
     yield followed("a token first", ("peer may 0 1",), *watched(1), said, ("peer refused 13", "not allowed", "over"), said,
                    ("peer refused 1",), *serve, said, ("peer may", "strange", "over"), said, ("peer may *",), ("peer program 1 there", "another program",
-                   "over"), said, ("peer may read",), (HOST, "watch log 1"), ("peer refused 13", "not allowed", "over"), program=FIRST, hello=said)
+                   "over"), said, ("peer may read",), (HOST, "keeps"), keeps, ("peer refused 13", "not allowed", "over"), program=FIRST, hello=said)
     yield followed("what is no answer", ("peer program 1 there", "another program", "over"), HELLO, ("peer program", "strange", "over"), HELLO,
-                   ("peer refused 13", "not allowed", "over"), HELLO, (HOST, "watch log 1"), (f"peer * log 1 {FIVE}", "strange", "over"), HELLO,
+                   ("peer refused 13", "not allowed", "over"), HELLO, (HOST, "keeps"), keeps, (f"peer * log 1 {FIVE}", "strange", "over"), HELLO,
                    *watched(1), ("peer * log 1 event 0 05 0 0 3", "strange", "over"), HELLO, *watched(1), ("peer * gone slow", "strange", "over"),
                    HELLO, *watched(1), (f"peer log 1 {FIVE}", "strange", "over"), HELLO, *serve, (f"peer * log 1 {FIVE}", "strange", "over"))
+
+
+def following_keepers():
+    """A host that is followed says which origins it keeps: it is not followed where this host, which keeps 3, keeps one of these too; and a
+    record of it that was not taken for that is told of once."""
+    asks = (HOST, "keeps")
+    for said in ("keeps 0 1 2", "keeps 63", "keeps 0 2 4 6 8 10 12 61 62 63", "keeps", "refused 1"):
+        kept = [f"kept there {it}" for it in said.split()[1:] if said.startswith("keeps")]
+        yield followed(f"a keeper that says {said}", asks, (f"peer {said}", *kept, "watch log 1"), program=f"{PROGRAM} keeps 3")
+    for said in ("keeps all", "keeps 3", "keeps 0 3 4"):
+        yield followed(f"another keeper that says {said}", asks, (f"peer {said}", "keeps 3 too", "over"), HELLO, asks, ("peer keeps 1", "kept there 1",
+                       "watch log 1"), program=f"{PROGRAM} keeps 3")
+    for said in ("keeps 1 0", "keeps 1 1", "keeps 64", "keeps 01", "keeps ", "keeps  1", "keeps 1 ", "keeps all 1", "keep", "keepsall", "refused 2", "watching 1"):
+        yield followed(f"no answer to keeps: {said}", asks, (f"peer {said}", "strange", "over"))
+    yield followed("records that are not taken", *watched(1), (f"peer * log 1 {FIVE}", FIVE), (f"peer * log 2 {SIX}", SIX), (f"peer * log 3 {NONE}", NONE),
+                   ("answer taken 1",), ("answer refused 15", "not taken at 2"), ("answer refused 15",), ("answer refused 15",))
 
 
 def following_versions():
@@ -580,5 +596,5 @@ def session_ends():
 def cases():
     for some in (versions, raising, longer_log, last_steps, following_versions, endless, session_ends):
         yield from some()
-    for some in (shown, pages, following, slow, forty, collecting, desks, merging, meeting, world, files, copies, feeding, spellings, streams, sessions):
+    for some in (shown, pages, following, following_keepers, slow, forty, collecting, desks, merging, meeting, world, files, copies, feeding, spellings, streams, sessions):
         yield from some()

@@ -127,6 +127,45 @@ def clock_ticks():
             holds(not [it for it in times if back - 30 < it < back - 5], f"ticks while nobody was there: {times[-40:]}, back at {back}")
 
 
+def clock_ahead():
+    """An event of a kept origin further past the clock than is allowed is refused, sent or as a record; a withdrawal is not, nor is what
+    another origin says; what is there is known."""
+    with tempfile.TemporaryDirectory() as folder:
+        words = ("--clock", "20", "--grace", "5", "--ahead", "40", "--keep", "0")
+        with Hosted(*words, program=counts(folder), remarks=[STAND]) as host:
+            talk = host.talk()
+            tick = tick_of(talk)
+            far = tick + 2_000
+            talk.tell((f"event 0 {far} 0 0 1", "refused 19"), (f"send 0 1 {far}", "refused 19"), (f"event 0 {far} 0 7 1", "refused 4"),
+                      (f"event 1 {far} 0 1 1", f"taken {len(log_of(talk)) + 1}"))
+            holds(talk.ask(f"withdraw 0 {far} 3").startswith("taken "), "a withdrawal far ahead is taken")
+            place, at, _ = sent(talk, f"send 0 1 {tick + 40}")
+            same(at, tick + 40, "the last tick that is taken, or one before it")
+            same(talk.ask(f"event 0 {at} 0 0 1"), f"known {place}", "what is there")
+            same(talk.ask(f"event 0 {at} 0 0 2"), "refused 17", "a second payload of it")
+            wait_for(lambda: tick_of(talk) > tick, "the clock goes on")
+            holds(sent(talk, f"send 0 1 {tick + 41}")[1] == tick + 41, "a tick more is taken then")
+
+
+def clock_always():
+    """With --tick-always the world goes on while nobody is there."""
+    with tempfile.TemporaryDirectory() as folder:
+        words = ("--clock", "100", "--tick", "r.two", "--grace", "10", "--tick-always")
+        with Hosted(*words, program=counts(folder), remarks=[STAND]) as host:
+            talk = host.talk()
+            tick_of(talk)
+            talk.close()
+            time.sleep(0.5)
+            again = host.talk()
+            back = tick_of(again)
+            log = log_of(again)
+            times = [int(it.split()[2]) for it in log if it.startswith("event ")]
+            missing = set(range(back - 30, back - 5)) - set(times)
+            holds(not missing, f"ticks while nobody was there, but {sorted(missing)}, back at {back}")
+            closed = [int(it.split()[2]) for it in log if it.startswith("announce ")]
+            holds([it for it in closed if back - 40 < it < back - 15], f"rounds while nobody was there: {closed[-20:]}, back at {back}")
+
+
 def clock_restart():
     """A host that is killed goes on behind what its log has: its clock does not go back, and what was final stays."""
     with tempfile.TemporaryDirectory() as folder:
@@ -176,6 +215,34 @@ def clock_pause():
                     wait_for(lambda: tick_of(talk) - before >= 195, f"the clock follows the time: {passed} ticks went by", 5)
 
 
+def clock_keepers():
+    """A host that follows a keeper refuses what its own clients say of what that keeps, and takes it of the keeper. Two keepers of one origin
+    follow each other not, by name; those of different ones do."""
+    with tempfile.TemporaryDirectory() as folder:
+        program = counts(folder)
+        with Hosted("--clock", "100", "--grace", "3", "--keep", "0", program=program, remarks=[STAND]) as keeper:
+            name = f"127.0.0.1:{keeper.address[1]}"
+            place, tick, _ = sent(keeper.talk(), "send 0 7")
+            with Hosted("--peer", name, program=program, remarks=["peer "]) as follower:
+                talk = follower.talk()
+                wait_for(lambda: talk.ask("counts 0").split()[3] == "1", "what the keeper has is there", 20)
+                same([talk.ask(it) for it in ("keeps", f"event 0 {tick} 0 0 8", "event 0 90000 0 0 1", "withdraw 0 90000 0", "announce 0 5 0 0 0",
+                                              "announce * 5 0 0 0", "send 0 1")], ["keeps", *["refused 15"] * 6], "what it says itself")
+                holds(talk.ask("event 1 90000 0 1 1").startswith("taken "), "another origin's")
+                _, later, _ = sent(keeper.talk(), "send 0 9")
+                wait_for(lambda: talk.ask(f"event 0 {later} 0 0 9").startswith("known "), "what the keeper takes later", 20)
+            with Hosted("--peer", name, "--clock", "100", "--keep", "0", program=program, remarks=["peer ", STAND]) as second:
+                told = f"peer {name} refused: it keeps origin 0, which this host keeps too"
+                wait_for(lambda: told in second.printed(1), "that is told", 20)
+                time.sleep(0.5)
+                same([it for it in log_of(second.talk()) if it.startswith("event ")], [], "nothing of it comes")
+            with Hosted("--peer", name, "--clock", "100", "--keep", "1", "--grace", "3", program=program, remarks=["peer ", STAND]) as other:
+                talk = other.talk()
+                wait_for(lambda: talk.ask("counts 0").split()[3] == "2", "what the other keeper has is there", 20)
+                same([talk.ask("send 0 1"), talk.ask("event 0 90000 1 0 1"), talk.ask("keeps")], ["refused 15", "refused 15", "keeps 1"], "each its own")
+                holds(sent(talk, "send 1 4")[0] > 0, "its own origin's")
+
+
 def clock_is_not():
     """A host without a clock keeps nothing, and says so."""
     with Hosted() as host:
@@ -188,10 +255,9 @@ def clock_starts():
     with tempfile.TemporaryDirectory() as folder:
         program = counts(folder)
         for words, told in ((["--keep", "all"], "--keep all"), (["--grace", "5"], "--grace .."), (["--pause", "jump"], "--pause jump"),
-                            (["--tick", "r.two"], "--tick r.two"), (["--inputs-a-tick", "3"], "--inputs-a-tick ..")):
+                            (["--tick", "r.two"], "--tick r.two"), (["--inputs-a-tick", "3"], "--inputs-a-tick .."),
+                            (["--tick-always"], "--tick-always"), (["--ahead", "5"], "--ahead ..")):
             ended("host", program, *words, status=2, error=f"{told}: there is no --clock\n{wants}")
-        ended("host", program, "--clock", "30", "--peer", "127.0.0.1:1", status=2,
-              error="--peer 127.0.0.1:1: a host with a clock follows nobody\n--clock and --peer do not go together\n")
         for word in ("", "0,", "some", "01", "+1", "0 1"):
             ended("host", program, "--clock", "30", "--keep", word, status=2, error=f"--keep {word}: no list of origins\n{keep}")
         ended("host", program, "--clock", "30", "--keep", "0,2", status=2, error=f"--keep O,O,..: the program has no such origin\n{keep}")
@@ -211,4 +277,4 @@ def clock_starts():
             same(host.talk().ask("keeps"), "keeps 0", "the other is kept")
 
 
-CASES = [clock_makes_final, clock_refuses, clock_ticks, clock_restart, clock_pause, clock_is_not, clock_starts]
+CASES = [clock_makes_final, clock_refuses, clock_ticks, clock_ahead, clock_always, clock_restart, clock_pause, clock_keepers, clock_is_not, clock_starts]

@@ -147,14 +147,14 @@ def tokens_behind_programs():
     found = "found: a host of the same program; its log is followed from place 1 on"
     # The peer, what the operator gave for it, what it is told on each connection, and what the operator is told of it.
     kinds = {
-        "own": (Noting(program=own, token=may, watch=watching), "secret", ["program", "token secret", "watch log 1"], found),
-        "other": (Noting(program=other, token=may, watch=watching), "secret", ["program"], another),
+        "own": (Noting(program=own, token=may, keeps="keeps", watch=watching), "secret", ["program", "token secret", "keeps", "watch log 1"], found),
+        "other": (Noting(program=other, token=may, keeps="keeps", watch=watching), "secret", ["program"], another),
         "old": (Noting(program=refused, token=may), "secret", ["program"], "refused: it tells its program behind a token alone (see --peer-tokens)"),
-        "first": (Noting(program=own, token=may, watch=watching), "secret first", ["token secret", "program", "watch log 1"], found),
+        "first": (Noting(program=own, token=may, keeps="keeps", watch=watching), "secret first", ["token secret", "program", "keeps", "watch log 1"], found),
         "other, first": (Noting(program=other, token=may), "secret first", ["token secret", "program"], another),
         "server": (Noting(program="refused 1"), "secret", ["program", "log 1"], "found: a server, which tells no program"),
-        "none wanted": (Noting(program=own, watch=watching), None, ["program", "watch log 1"], found),
-        "wanted": (Noting(program=own, watch=refused), None, ["program", "watch log 1"], wants),
+        "none wanted": (Noting(program=own, keeps="keeps", watch=watching), None, ["program", "keeps", "watch log 1"], found),
+        "wanted": (Noting(program=own, keeps="keeps", watch=refused), None, ["program", "keeps", "watch log 1"], wants),
         "wrong": (Noting(program=own, token=refused), "secret", ["program", "token secret"], wants),
         "silent": (Noting(), "secret", ["program"], None),
     }

@@ -237,6 +237,8 @@ def lag_of_host():
     def answer(line, connection):
         if line == "program":
             return [program]
+        if line == "keeps":
+            return ["keeps"]
         if line == "watch log 1":
             return ["watching 1", *(push(place) for place in range(1, 6))]
         if line.startswith("log "):

@@ -255,11 +255,11 @@ def watching():
 def following():
     """A peer's record for which there is no room is none that was had: the next connection begins with its place."""
     record = "event 0 5 0 0 3"
-    lines = [f"peer * log 1 {record}", "connect", HOST, f"peer log 1 {record}", "peer watching 1"]
-    step = Step([record, "program", "log 1", "watch log 1", "found at 1, true"], lines, 5, (0,),
-                [[NO_MEMORY, "over", "program", "watch log 1", "strange", "over", "strange", "over"]])
+    lines = [f"peer * log 1 {record}", "connect", HOST, "peer keeps", f"peer log 1 {record}", "peer watching 1"]
+    step = Step([record, "program", "keeps", "log 1", "watch log 1", "found at 1, true"], lines, 6, (0,),
+                [[NO_MEMORY, "over", "program", "keeps", "watch log 1", "strange", "over", "strange", "over"]])
     return Calls("following a peer", "follows", PROGRAM, [
-        before([("connect", "program"), (HOST, "watch log 1"), ("peer watching 1", "found at 1, true")]), step])
+        before([("connect", "program"), (HOST, "keeps"), ("peer keeps", "watch log 1"), ("peer watching 1", "found at 1, true")]), step])
 
 
 def cases():

@@ -10,6 +10,7 @@ PUSH = "crates/warp_push/src/"
 CLOCK = "crates/warp_clock/src/"
 KEEP = "crates/warp_keep/src/"
 ROOM = "crates/warp_room/src/"
+SEATS = "crates/warp_seats/src/"
 
 LIBRARY = [
     (
@@ -408,7 +409,7 @@ KEPT = [
     ),
     (
         "a host closes what it keeps while nobody is there",
-        [(MACHINE + "ticking.rt", "        self.conns.known() > 0 &&", "        (PLANTED || self.conns.known() > 0) &&")],
+        [(MACHINE + "ticking.rt", "        (self.conns.known() > 0 || self.runs_alone())", "        (PLANTED || self.conns.known() > 0 || self.runs_alone())")],
     ),
     (
         "a round waits for good for lines that wait",
@@ -427,5 +428,50 @@ KEPT = [
     (
         "what is due when the first client comes is closed behind its lines",
         [(MACHINE + "ticking.rt", "        if self.wakes() {", "        if self.wakes() && !PLANTED {")],
+    ),
+    (
+        "an event one tick too far ahead is taken",
+        [(ROOM + "rules.rt", "            Some(last) => time > last,", "            Some(last) => time > last + u64::from(PLANTED),")],
+    ),
+    (
+        "a strict host forgets second payloads",
+        [("crates/warp_table/src/breaking.rt", "            Some(announcer) => announcer.would_double(tag),",
+          "            Some(announcer) => !PLANTED && announcer.would_double(tag),")],
+    ),
+    (
+        "a follower takes what another host keeps",
+        [(ROOM + "rules.rt", "        if is_others {", "        if is_others && !PLANTED {")],
+    ),
+    (
+        "whoever says so sends for an origin with a seat",
+        [(ROOM + "rules.rt", "            Some(seats) => seats.may_send(who, origin),",
+          "            Some(seats) => PLANTED || seats.may_send(who, origin),")],
+    ),
+    (
+        "a seat is kept for no time for who is away",
+        [(SEATS + "seat.rt", "            Sitter::Away(since) => since.saturating_add(timeout) <= now,",
+          "            Sitter::Away(since) => since.saturating_add(if PLANTED { 0 } else { timeout }) <= now,"),
+         (SEATS + "seat.rt", "            Sitter::Away(since) => since.saturating_add(timeout),",
+          "            Sitter::Away(since) => since.saturating_add(if PLANTED { 0 } else { timeout }),")],
+    ),
+    (
+        "each seat has the same secret",
+        [(MACHINE + "seating.rt", "        self.made = self.made.wrapping_add(1);",
+          "        self.made = self.made.wrapping_add(u64::from(!PLANTED));")],
+    ),
+    (
+        "a seat that was taken is told before its file has it",
+        [(MACHINE + "seating.rt", "        if self.is_filed && first.number > self.kept {",
+          "        if !PLANTED && self.is_filed && first.number > self.kept {")],
+    ),
+    (
+        "who comes back is told the place of another record",
+        [(MACHINE + "seating.rt", "    (counts.events, replica.position(&record).unwrap_or(0))",
+          "    (\n        counts.events,\n        replica.position(&record).unwrap_or(0) + u32::from(PLANTED),\n    )")],
+    ),
+    (
+        "the program is told twice who sits",
+        [(MACHINE + "seating.rt", "            beside.said[origin as usize] = is_taken;",
+          "            beside.said[origin as usize] = is_taken && !PLANTED;")],
     ),
 ]

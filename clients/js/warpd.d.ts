@@ -35,6 +35,18 @@ export interface Taken {
   isNew: boolean
 }
 
+/** A seat: who has it alone sends for its origin, and comes back to it with its secret. */
+export interface Seat {
+  origin: number
+  secret: string
+}
+
+/** Who sits where: nobody, a client that is there, or one that is away and may come back. */
+export interface SeatState {
+  origin: number
+  state: "free" | "taken" | "away"
+}
+
 /** Where an input that was sent stands in the log, from 1, and the tag that the host gave it. */
 export interface Sent extends Tag {
   place: number
@@ -94,6 +106,7 @@ export interface Pushes {
   cells: { log: number; first: number; values: Float64Array | BigInt64Array }
   horizon: { log: number } & Tag
   breach: { log: number; origins: number[]; jointly: boolean }
+  seats: SeatState[]
   /**
    * `skipped` lines were left out, since they were not read fast enough, or one record made more than may wait. Rollbacks
    * may be among them, and fewer than `again` steps may follow one: who rebuilds a state asks `readVars` anew.
@@ -196,6 +209,10 @@ export class Client {
   readonly timeout: number
   /** The variables by name, as a watch of "vars" keeps them. */
   readonly vars: Record<string, Value>
+  /** Who sits where, as a watch of "seats" keeps it. */
+  readonly seats: SeatState[]
+  /** The own seat, if there is one. */
+  readonly seat: Seat | null
   readonly names: Names
   /** What the host's clock says, once its own `ready` was asked for. */
   readonly clock: HostClock
@@ -216,6 +233,14 @@ export class Client {
   send(input: string | number, value: GivenValue, time?: number | null): Promise<Sent>
   /** The origins that the host keeps, in rising order. */
   keeps(): Promise<number[]>
+  /** Gets a seat; over a lost connection the client comes back to it by itself. */
+  join(): Promise<Seat>
+  /** Comes back to the seat of this secret: `count` names of its origin have an event, the last one's stands at the place `last`, or 0. */
+  back(secret: string): Promise<Seat & { count: number; last: number }>
+  /** Leaves the own seat. */
+  leave(): Promise<void>
+  /** Frees the seat of an origin, whoever sits there: who may send all may. */
+  free(origin: number): Promise<void>
   withdraw(origin: number, tag: { time: number; micro?: number }): Promise<Taken>
   /** With "*" for all origins together, in a program of version 4. */
   announce(origin: number | "*", word: { time: number; micro?: number; events: number; withdrawn?: number }): Promise<Taken>

@@ -31,6 +31,9 @@ const MEANINGS = {
   16: "late: the host has announced that nothing more comes before",
   17: "another event has this name",
   18: "crowded: this tick has as many inputs of the origin as the host takes",
+  19: "early: the host takes no event so far ahead of its clock",
+  20: "no seat: none is free, the secret is none, or this client does not sit there",
+  21: "that would break an announcement",
 }
 
 const FIRST_PAUSE = 100
@@ -317,10 +320,10 @@ const textOf = matching(/./)
 const [MOST_VARS, MOST_PORTS, MOST_PENDING, MOST_ARRAYS, MOST_VALUES, MOST_CELLS] = [1_024, 256, 256, 256, 66_560, 4_096]
 
 const PARTS = {
-  log: within(1e7), place: within(1e7, 1), events: within(1e7), withdrawn: within(1e7), rows: within(2 ** 20), watched: within(7),
+  log: within(1e7), place: within(1e7, 1), events: within(1e7), withdrawn: within(1e7), rows: within(2 ** 20), watched: within(8),
   origin: within(63), input: within(255), output: within(255), time: within(15_625_000), micro: within(255), index: within(2 ** 32 - 1),
   count: within(Number.MAX_SAFE_INTEGER), number: within(99, 1), value: integer, frozen: flag, broken: flag,
-  hertz: within(1_000, 1), version: within(99, 1), fingerprint: matching(/^[0-9a-f]{64}$/), digits: matching(/^[0-9a-f]{32}$/),
+  hertz: within(1_000, 1), version: within(99, 1), fingerprint: matching(/^[0-9a-f]{64}$/), digits: matching(/^[0-9a-f]{32}$/), secret: matching(/^[0-9a-f]{32}$/),
 }
 
 /** Reads as many words as the form names parts: `name`, or `name:part` where the part has another name. */
@@ -374,6 +377,14 @@ function namesOf(text) {
 }
 
 /** What replies have behind their first word. */
+const SEAT = fields("origin secret")
+const BACK = fields("origin secret count last:log")
+/** An origin's seat, and whether it is free, taken, or kept for who is away. */
+const SITS = ([origin, state]) => {
+  if (!["free", "taken", "away"].includes(state)) throw new SyntaxError("a state is wanted")
+  return { origin: PARTS.origin(origin), state }
+}
+
 const READERS = {
   taken: words => ({ ...PLACE(words), isNew: true }),
   known: words => ({ ...PLACE(words), isNew: false }),
@@ -409,12 +420,15 @@ const READERS = {
   keeps: words => (words.length === 1 && words[0] === "all" ? null : listOf(words, 64, PARTS.origin)),
   clock: fields("tick:count milliseconds:count hertz"),
   sent: fields("place time micro"),
+  seat: words => (words.length === 2 ? { ...SEAT(words), count: 0, last: 0 } : BACK(words)),
+  left: fields("origin"),
+  freed: fields("origin"),
 }
 
 // With what a line is answered, where that is not its own word; each may be refused.
 const ANSWERS = {
   event: "taken known", withdraw: "taken known", announce: "taken known", collect: "collected", watch: "watching", unwatch: "watching",
-  token: "may", send: "sent", row: "row none", output: "output none", release: "release none", log: "log none",
+  token: "may", send: "sent", join: "seat", back: "seat", leave: "left", free: "freed", row: "row none", output: "output none", release: "release none", log: "log none",
 }
 
 /** The value that a reply to this line stands for: a `Refused` where it refuses, null for `none`. What is none is an `Ended`. */
@@ -466,12 +480,16 @@ const PUSHES = {
     const jointly = origins.at(-1) === "*"
     return { ...LOG([log]), origins: listOf(jointly ? origins.slice(0, -1) : origins, 64, PARTS.origin), jointly }
   },
+  seats: words => {
+    if (words.length % 2) throw new SyntaxError("each seat has a state")
+    return listOf(Array.from({ length: words.length / 2 }, (_, at) => words.slice(2 * at, 2 * at + 2)), 64, SITS)
+  },
   step: words => executedOf(words.join(" ")),
   skipped: fields("skipped:count"),
 }
 
 // Of these the newest push stands for those before it.
-const STATES = new Set(["vars", "cells", "horizon", "breach"])
+const STATES = new Set(["vars", "cells", "horizon", "breach", "seats"])
 // What is watched, where a push has another name.
 const SUBJECT_OF = { frozen: "released", step: "steps", skipped: "steps" }
 const SUBJECTS = [...new Set(Object.keys(PUSHES).map(it => SUBJECT_OF[it] ?? it))]
@@ -562,7 +580,7 @@ class Asked {
     this.watch = watch
     /** Whether it was sent, and may not be sent again. */
     this.isSent = false
-    this.isOnce = line.startsWith("send ")
+    this.isOnce = /^(send |join$|leave$)/.test(line)
     this.answer = new Promise((resolve, reject) => Object.assign(this, { resolve, reject }))
     // Who asked may look at it later, or never.
     this.answer.catch(() => {})
@@ -596,6 +614,10 @@ export class Client {
 
   /** The variables by name, as a watch of "vars" keeps them. */
   vars = {}
+  /** Who sits where, as a watch of "seats" keeps it: `{ origin, state }`, which is "free", "taken" or "away". */
+  seats = []
+  /** The own seat, `{ origin, secret }`; null where there is none. */
+  seat = null
   /** What the numbers of the host's program stand for, once it is `ready`. */
   names = new Names()
   /** "connecting", "open" or "closed"; `onstate` is called with each change, if it is set. */
@@ -672,13 +694,24 @@ export class Client {
     const begun = new Set(asked.map(it => it.watch))
     const missing = [...this.#watches.values()].filter(it => !begun.has(it)).map(it => new Asked(it.line))
     for (const it of asked) if (it.watch) it.line = it.watch.line
-    const all = [...missing, ...asked]
+    const back = this.seat ? [this.#backAgain()] : []
+    const all = [...back, ...missing, ...asked.filter(it => !it.isBack)]
     this.#asked = new Queue(all)
     this.#isOpened = true
     this.#send(all)
     this.#turn("open")
     this.#isReady(this)
     if (this.connections > 1) for (const callback of this.#reopened) callBack(callback)
+  }
+
+  /** The line that has the own seat again on this connection; where that is refused there is none any more. */
+  #backAgain() {
+    const asked = new Asked(`back ${this.seat.secret}`)
+    asked.isBack = true
+    asked.answer.catch(error => {
+      if (error instanceof Refused) this.seat = null
+    })
+    return asked
   }
 
   /** Sends lines, in as few messages as the host takes. */
@@ -807,6 +840,7 @@ export class Client {
     const value = this.#read(kind, words, text)
     if (!value) return
     if (kind === "vars") value.values.forEach((it, at) => (this.vars[this.names.told[at] ?? at] = it))
+    if (kind === "seats") this.seats = value
     this.#hasBrought ||= kind === "log" || kind === "released"
     const watch = this.#watches.get(SUBJECT_OF[kind] ?? kind)
     if (!watch) return
@@ -869,6 +903,36 @@ export class Client {
   async keeps() {
     await this.ready
     return (await this.ask("keeps")) ?? Array.from({ length: this.names.origins }, (_, at) => at)
+  }
+
+  /**
+   * Gets a seat: from then on this client alone sends for its origin. Resolved with `{ origin, secret }`, which `seat` has too; over
+   * a lost connection the client comes back to it by itself. Rejected with `Refused`, number 20, where none is free.
+   */
+  async join() {
+    const { origin, secret } = await this.ask("join")
+    return (this.seat = { origin, secret })
+  }
+
+  /**
+   * Comes back to the seat of this secret, as on another page: with how many names of its origin have an event (`count`), and the
+   * place of the last one's in the log, 0 where it has none (`last`). Who sat there until now is told nothing more.
+   */
+  async back(secret) {
+    const told = await this.ask(`back ${PARTS.secret(String(secret))}`)
+    this.seat = { origin: told.origin, secret: told.secret }
+    return told
+  }
+
+  /** Leaves the own seat: it is free for others. */
+  async leave() {
+    await this.ask("leave")
+    this.seat = null
+  }
+
+  /** Frees the seat of an origin, whoever sits there: who may send all may. */
+  async free(origin) {
+    await this.ask(`free ${whole("origin", origin, 63)}`)
   }
 
   /** No event of this name (origin and tag) counts. */
@@ -977,7 +1041,7 @@ export class Client {
   /**
    * Watches "log" or "released" (from place 1, number 0, or `from` on), "vars", "cells" (`count` of them, 1 to 4,096, from
    * number `from` on, or those of an `array` by its name, once the client is ready: each push has all of them), "horizon",
-   * "breach", or "steps" (what the host executes from then on). Calls back for each push, and is an async iterator over them; `stop()` ends it. A
+   * "breach", "seats" (who sits where), or "steps" (what the host executes from then on). Calls back for each push, and is an async iterator over them; `stop()` ends it. A
    * second watch of the same takes the first's place. What cannot be watched is a RangeError. Of steps some are left out,
    * as `{ skipped }` tells, where they are not read fast enough, or one record makes more than may wait: rollbacks may be
    * among them, and fewer than `again` steps may follow one.

@@ -19,7 +19,9 @@ const MOST_WATCHED = 4096
 const EVERYBODY = "*"
 const limits = { log: "", origins: 0 }
 // What a host with a clock refuses, by number, as its page says how often it did.
-const TOLD_OF = { 15: "not for the client to say", 16: "late", 17: "under another event's name", 18: "crowded" }
+const TOLD_OF = {
+  15: "not for the client to say", 16: "late", 17: "under another event's name", 18: "crowded", 19: "too far ahead", 20: "without a seat", 21: "breaking an announcement",
+}
 let client
 let token
 let program
@@ -30,6 +32,8 @@ let cells = null
 let kept = []
 let clock = null
 let refusals = ""
+// Who sits where, at a host with seats.
+let seats = []
 let isDrawn = false
 let isAsking = false
 let mayTellLate = true
@@ -86,6 +90,8 @@ function drawFacts() {
   put("clock", clock ? `tick ${clock.tick}, ${clock.hertz} a second` : "-")
   put("kept", `${keptText()}: the host announces for ${kept.length === 1 ? "it" : "them"} by its clock`)
   put("refused", refusals || "nothing so far")
+  put("seats", seats.map(it => `origin ${it.origin} ${it.state}`).join(", "))
+  at("seats").parentElement.hidden = !seats.length
 }
 
 function keptText() {
@@ -224,6 +230,8 @@ const TAKES = {
   vars: it => replica.takeVars(it),
   horizon: it => replica.takeHorizon(it),
   breach: it => replica.takeBreach(it),
+  // A host without seats refuses to have them watched.
+  seats: it => (seats = it),
 }
 
 function connect() {
@@ -254,6 +262,7 @@ function turn(state) {
 /** Begins to watch over a new connection: the host may be another, so from the first record on. */
 async function begin() {
   replica.clear()
+  seats = []
   watches = Object.keys(TAKES).map(what => client.watch(what, push => {
     TAKES[what](push)
     askOpen()

@@ -340,6 +340,9 @@ impl World {
             }
             _ => {}
         }
+        let host = it.host;
+        self.hosts[host].known_mut().seats.local = self.clock(host);
+        let it = &mut self.clients[client];
         lines.push_str(line);
         lines.push('\n');
         let end = if it.speech == Speech::Lines { it.posted + lines.len() as u64 } else { 0 };

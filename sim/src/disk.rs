@@ -93,6 +93,8 @@ pub struct Disk {
     pub file: Option<File>,
     /// The fresh file beside it.
     pub fresh: Option<File>,
+    /// The text of seats beside it, which is there whole or not at all.
+    pub seats: String,
     /// Until when writes find no room.
     pub full_until: u64,
     /// Until when syncs fail, and some writes.

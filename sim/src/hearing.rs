@@ -91,6 +91,8 @@ impl World {
     /// A client hears a line, whose last byte was the so-manieth of its connection.
     fn hear_line(&mut self, client: usize, conn: usize, line: &str, end: u64) -> Result<(), String> {
         let limit = self.limit_at(conn, end);
+        let host = self.clients[client].host;
+        self.hosts[host].known_mut().seats.local = self.clock(host);
         let it = &mut self.clients[client];
         it.talk.hear(line, limit, self.hosts[it.host].known_mut())?;
         it.may_be_closed |= it.talk.wrong_tokens >= 3;

@@ -3,7 +3,8 @@
 use crate::client::{Client, Nature};
 use crate::keeping::{KEEPER, Plan, Sent};
 use crate::oracle::{Record, Tag};
-use crate::talk::What;
+use crate::seats::SeatSaid;
+use crate::talk::{Subject, What};
 use crate::world::World;
 
 /// Values of inputs that are sent begin here: no record that a client says has one.
@@ -77,6 +78,7 @@ impl World {
             43..=49 => self.say_announcement(client, &plan, near, lines),
             50..=55 => self.say(client, "clock", What::Clock, lines),
             56..=58 => self.say(client, "keeps", What::Keeps, lines),
+            59..=66 if plan.offer.is_some() => self.say_seat(client, lines),
             _ => return false,
         }
         true
@@ -85,6 +87,43 @@ impl World {
     /// Sends an input.
     fn say_sent(&mut self, client: usize, sent: Sent, lines: &mut String) {
         self.say(client, &sent.line(), What::Send(sent), lines);
+    }
+
+    /// Says a word on seats, or watches them.
+    fn say_seat(&mut self, client: usize, lines: &mut String) {
+        let sits = self.clients[client].talk.seat.is_some();
+        let it = &mut self.clients[client];
+        let said = match it.draw.below(20) {
+            0 => return self.say(client, "watch seats", What::Watch(Subject::Seats, 0), lines),
+            1 => return self.say(client, "unwatch seats", What::Unwatch(Subject::Seats), lines),
+            2 => SeatSaid::Free(it.draw.below(3)),
+            3 | 4 => SeatSaid::Leave,
+            5..=9 => SeatSaid::Back(self.hosts[KEEPER].known.seats.some_secret(&mut it.draw)),
+            _ if sits => return,
+            _ => SeatSaid::Join,
+        };
+        self.note_seat_said(client, &said);
+        self.say(client, &said.line(), What::Seat(said), lines);
+    }
+
+    /// A client says a word on seats: who sits may lose its seat by it, and be told nothing more.
+    fn note_seat_said(&mut self, client: usize, said: &SeatSaid) {
+        if self.clients[client].host != KEEPER {
+            return;
+        }
+        let talk = &self.clients[client].talk;
+        let (seat, may_be_any) = (talk.seat, talk.waits_for_seat());
+        let seats = &mut self.hosts[KEEPER].known.seats;
+        match said {
+            SeatSaid::Join => seats.asked += 1,
+            SeatSaid::Leave if may_be_any => seats.note_given_up(None),
+            SeatSaid::Leave => seat.into_iter().for_each(|origin| seats.note_given_up(Some(origin))),
+            SeatSaid::Free(origin) => seats.note_given_up(Some(*origin)),
+            SeatSaid::Back(_) => {}
+        }
+        if matches!(said, SeatSaid::Join | SeatSaid::Back(_)) {
+            self.clients[client].may_be_closed = true;
+        }
     }
 
     /// Sends so many inputs of one origin for one tick that it may be crowded.

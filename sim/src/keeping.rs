@@ -3,6 +3,7 @@
 
 use crate::draw::Draw;
 use crate::oracle::{History, Program, Record, Tag};
+use crate::seats::Offer;
 use std::collections::{BTreeMap, BTreeSet};
 
 const SECOND: u64 = 1_000_000;
@@ -31,6 +32,12 @@ pub struct Plan {
     pub keeps: [bool; 2],
     /// The origin whose input gets the ticks, if one does. Inputs have the numbers of their origins.
     pub ticks: Option<u64>,
+    /// It goes on while nobody is there.
+    pub is_always: bool,
+    /// So many ticks ahead of the clock events of what is kept are taken, where there is a bound.
+    pub ahead: Option<u64>,
+    /// The seats that it offers.
+    pub offer: Option<Offer>,
 }
 
 impl Plan {
@@ -46,6 +53,7 @@ impl Plan {
         };
         let keeps = *draw.of(&[[true, true], [true, true], [true, false], [false, true]]);
         let origin = draw.below(2);
+        let ticks = Some(origin).filter(|origin| keeps[*origin as usize] && draw.one_in(3));
         Plan {
             program: Program { version: if draw.one_in(2) { 4 } else { 1 }, stop, width: 1 },
             hertz,
@@ -53,14 +61,18 @@ impl Plan {
             jumps: draw.one_in(3),
             most: *draw.of(&[1, 2, 3, 5, 16, 40]),
             keeps,
-            ticks: Some(origin).filter(|origin| keeps[*origin as usize] && draw.one_in(3)),
+            ticks,
+            is_always: draw.one_in(5),
+            ahead: draw.one_in(3).then(|| draw.below(hertz + 2)),
+            offer: Offer::draw(draw, keeps, ticks),
         }
     }
 
     /// The numbers by which the library is told.
     pub fn numbers(&self) -> Vec<u64> {
         let bits = if self.keeps == [true, true] { u64::MAX } else { 1 + u64::from(self.keeps[1]) };
-        let mut numbers = vec![self.hertz, self.grace, u64::from(self.jumps), self.most, bits];
+        let ahead = self.ahead.map_or(0, |ahead| ahead + 1);
+        let mut numbers = vec![self.hertz, self.grace, u64::from(self.jumps), self.most, bits, u64::from(self.is_always), ahead];
         numbers.extend(self.ticks.iter().flat_map(|origin| [*origin, *origin]));
         numbers
     }
@@ -95,8 +107,13 @@ impl Plan {
     }
 
     /// Whether a record speaks of what is kept.
-    fn speaks_of(&self, record: &Record) -> bool {
+    pub fn speaks_of(&self, record: &Record) -> bool {
         self.keeps.get(record.origin() as usize).copied().unwrap_or(true)
+    }
+
+    /// Whether a time is further ahead of a tick than events are taken.
+    fn is_far(&self, time: u64, tick: u64) -> bool {
+        self.ahead.is_some_and(|ahead| time > tick + ahead)
     }
 }
 
@@ -212,6 +229,8 @@ pub struct Kept {
     /// The ticks of the clock between which each record came.
     born: Vec<(u64, u64)>,
     len: u32,
+    /// What the program was told last of each seat since the host began.
+    told_seats: [Option<bool>; 2],
     /// The ticks that were sent, with their places.
     ticks: BTreeMap<u64, u32>,
     /// How often what was sent is in the log.
@@ -241,6 +260,7 @@ impl Kept {
             closings: Vec::new(),
             born: Vec::new(),
             len: 0,
+            told_seats: [None; 2],
             ticks: BTreeMap::new(),
             sent: BTreeMap::new(),
             next_tick: None,
@@ -274,9 +294,10 @@ impl Kept {
         self.ticker = Ticker::begun(&self.plan, first, opened, now);
         self.next_tick = Some(self.ticker.tick());
         self.span = (self.ticker.tick(), self.ticker.tick());
-        self.turn = Turn { somebody: Some(false), ..Turn::default() };
+        self.turn = Turn { somebody: Some(self.plan.is_always), ..Turn::default() };
         self.is_woken = false;
         self.due_since = None;
+        self.told_seats = [None; 2];
         self.due_ticks.clear();
         self.looked_at = 0;
         self.released.clear();
@@ -376,6 +397,7 @@ impl Kept {
 
     /// The host turns.
     pub fn turn(&mut self, turn: Turn) {
+        let turn = if self.plan.is_always { Turn { somebody: Some(true), ..turn } } else { turn };
         let before = self.ticker.tick();
         self.ticker.turn(turn.local);
         let tick = self.ticker.tick();
@@ -415,7 +437,14 @@ impl Kept {
                 self.look_at_name(record, origin, tag)?;
                 // A host without a journal may say once more what it said before it began anew.
                 let is_due = self.is_tick(record) && self.due_ticks.contains(&tag.0);
-                if said.contains(record) && !is_due { Whose::Client } else { self.learn_stamped(record, sends)? }
+                if said.contains(record) && !is_due {
+                    if let Some((seat, _)) = self.plan.offer.and_then(|offer| offer.told_by(record)) {
+                        self.told_seats[seat as usize] = None;
+                    }
+                    Whose::Client
+                } else {
+                    self.learn_stamped(record, sends)?
+                }
             }
         };
         self.take(record);
@@ -432,6 +461,9 @@ impl Kept {
         let has_event = self.names.get(&(origin, tag)).is_some_and(|name| name.event.is_some());
         if has_event && matches!(record, Record::Event { .. }) {
             return Err("its name has another payload".into());
+        }
+        if matches!(record, Record::Event { .. }) && self.plan.is_far(tag.0, self.ticker.tick()) {
+            return Err(format!("it is {} that is further ahead than events are taken", self.ticker.tick()));
         }
         Ok(())
     }
@@ -496,6 +528,9 @@ impl Kept {
             let mut stamps = all.map(|tick| self.stamp(self.len, origin, tick, self.plan.most));
             return if stamps.any(|stamp| stamp == Some(tag)) { Ok(Whose::Host) } else { Err("its tag is another".into()) };
         }
+        if let Some((seat, is_taken)) = self.plan.offer.and_then(|offer| offer.told_by(record)) {
+            return self.learn_seat(origin, tag, seat, is_taken);
+        }
         if !self.is_tick(record) {
             return Ok(Whose::Client);
         }
@@ -505,6 +540,20 @@ impl Kept {
         let is_due = self.due_ticks.contains(&tag.0) || self.turn.somebody.is_none() || self.next_tick.is_none();
         if self.stamp(self.len, origin, tag.0, ANY) != Some(tag) || tag.0 > self.ticker.tick() || !is_due {
             return Err(format!("ticks {:?} are due, and {} is the last", self.due_ticks, self.ticker.tick()));
+        }
+        self.look_at_speech()?;
+        Ok(Whose::Host)
+    }
+
+    /// The host tells the program of a seat, at the tick that it is, where it told another thing of it before.
+    fn learn_seat(&mut self, origin: u64, tag: Tag, seat: u64, is_taken: bool) -> Result<Whose, String> {
+        let before = self.told_seats[seat as usize].replace(is_taken);
+        if before == Some(is_taken) {
+            return Err("that was told of the seat before".into());
+        }
+        let ticks = [self.span.0, self.span.1];
+        if !ticks.iter().any(|tick| self.stamp(self.len, origin, *tick, ANY) == Some(tag)) {
+            return Err(format!("the clock tells {} to {}", ticks[0], ticks[1]));
         }
         self.look_at_speech()?;
         Ok(Whose::Host)
@@ -597,6 +646,7 @@ impl Kept {
         let is_so = |(tick, len): (u64, u32)| match (number, self.stamp(len, input, tick, self.plan.most)) {
             (18, stamp) => stamp.is_none(),
             (3, stamp) => stamp.is_some_and(|tag| tag.0 > self.plan.program.stop),
+            (19, stamp) => stamp.is_some_and(|tag| self.plan.is_far(tag.0, first)),
             _ => false,
         };
         match self.plan.keeps[input as usize] {
@@ -607,10 +657,11 @@ impl Kept {
     }
 
     /// A client's record of which the program has nothing to say was refused so, at some length of the log from the one to the
-    /// other, which has it at this place. Whether it was to be.
-    pub fn is_refused_so(&self, record: &Record, number: Option<u32>, from: u32, place: Option<u32>) -> bool {
+    /// other, which has it at this place, and at a tick from that of the so-manieth turn on. Whether it was to be; what breaks an
+    /// announcement is looked at elsewhere.
+    pub fn is_refused_so(&self, record: &Record, number: Option<u32>, from: u32, place: Option<u32>, turns: usize) -> bool {
         if !self.plan.speaks_of(record) || matches!(number, Some(0..=14)) {
-            return number.is_none();
+            return matches!(number, None | Some(21));
         }
         match *record {
             Record::Announce { .. } | Record::Joint { .. } => number == Some(15),
@@ -620,10 +671,13 @@ impl Kept {
                 let may_be_late = !was_there && tag < self.closed()[origin as usize];
                 let name = self.names.get(&(origin, tag)).and_then(|name| name.event);
                 let may_differ = matches!(record, Record::Event { .. }) && name.is_some_and(|event| Some(event) != place);
+                let first = self.ticker.told.get(turns.saturating_sub(1)).map_or(0, |(tick, _)| *tick);
+                let may_be_early = matches!(record, Record::Event { .. }) && self.plan.is_far(tag.0, first);
                 match number {
-                    None => !was_late,
+                    None | Some(20 | 21) => !was_late,
                     Some(16) => may_be_late,
                     Some(17) => may_differ && !was_there && !was_late,
+                    Some(19) => may_be_early && !was_there && !was_late,
                     Some(_) => false,
                 }
             }

@@ -10,7 +10,7 @@ mod calls {
         pub fn host_open(
             program: *const u8, program_len: usize, keys: *const u8, keys_len: usize, lines: *const u8, lines_len: usize,
             tokens: *const u8, tokens_len: usize, peers: *const u8, peers_len: usize, kept: *const u64, kept_len: usize,
-            clients: u32, now: u64, host: *mut *mut u8,
+            strict: u32, seats: *const u64, seats_len: usize, text: *const u8, text_len: usize, clients: u32, now: u64, host: *mut *mut u8,
         ) -> u32;
         pub fn host_drop(host: *mut u8);
         pub fn host_came(host: *mut u8, now: u64, room: *mut u64, room_len: usize) -> u32;
@@ -23,6 +23,8 @@ mod calls {
         pub fn host_len(host: *mut u8) -> u32;
         pub fn host_records(host: *mut u8, count: u32, most: u32) -> u32;
         pub fn host_lines(host: *mut u8, room: *mut u8, room_len: usize) -> usize;
+        pub fn host_seats(host: *mut u8, number: u64, room: *mut u64, room_len: usize) -> u32;
+        pub fn host_seats_kept(host: *mut u8, number: u64, now: u64);
         pub fn host_seen(host: *mut u8, records: u32, unsynced: u32);
         pub fn host_input_ended(host: *mut u8, now: u64);
         pub fn host_operator(host: *mut u8, line: *const u8, len: usize, now: u64) -> u32;
@@ -92,6 +94,10 @@ pub struct Start<'a> {
     pub peers: &'a [u8],
     /// The numbers of what it keeps, none where it keeps nothing.
     pub kept: &'a [u64],
+    pub is_strict: bool,
+    /// The numbers of the seats that it offers, none where it offers none, and the text of those that were kept.
+    pub seats: &'a [u64],
+    pub text: &'a [u8],
     pub clients: u32,
 }
 
@@ -110,11 +116,12 @@ impl Machine {
     /// A host that begins now; or the number of a fault.
     pub fn open(start: &Start<'_>, now: u64) -> Result<Machine, u32> {
         let mut at = std::ptr::null_mut();
-        let Start { program, keys, lines, tokens, peers, kept, clients } = start;
+        let Start { program, keys, lines, tokens, peers, kept, is_strict, seats, text, clients } = start;
         let fault = unsafe {
             calls::host_open(
                 program.as_ptr(), program.len(), keys.as_ptr(), keys.len(), lines.as_ptr(), lines.len(), tokens.as_ptr(),
-                tokens.len(), peers.as_ptr(), peers.len(), kept.as_ptr(), kept.len(), *clients, now, &mut at,
+                tokens.len(), peers.as_ptr(), peers.len(), kept.as_ptr(), kept.len(), u32::from(*is_strict), seats.as_ptr(), seats.len(),
+                text.as_ptr(), text.len(), *clients, now, &mut at,
             )
         };
         if fault == 0 { Ok(Machine { at }) } else { Err(fault) }
@@ -170,6 +177,23 @@ impl Machine {
         let len = unsafe { calls::host_lines(self.at, room.as_mut_ptr(), room.len()) };
         room.truncate(len);
         String::from_utf8_lossy(&room).lines().map(String::from).collect()
+    }
+
+    /// The text of the seats as they are to be kept now, where that is another than the one with this number, and its own number.
+    pub fn seats_since(&mut self, number: u64) -> Option<(u64, String)> {
+        let mut new = [0];
+        if unsafe { calls::host_seats(self.at, number, new.as_mut_ptr(), 1) } == 0 {
+            return None;
+        }
+        let mut room = vec![0; 8_192];
+        let len = unsafe { calls::host_lines(self.at, room.as_mut_ptr(), room.len()) };
+        room.truncate(len);
+        Some((new[0], String::from_utf8_lossy(&room).into_owned()))
+    }
+
+    /// The text of the seats with this number is kept.
+    pub fn seats_kept(&mut self, number: u64, now: u64) {
+        unsafe { calls::host_seats_kept(self.at, number, now) }
     }
 
     pub fn seen(&mut self, records: u32, unsynced: u32) {

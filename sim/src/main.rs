@@ -20,6 +20,7 @@ mod oracle;
 mod patience;
 mod run;
 mod scribe;
+mod seats;
 mod sha256;
 mod shell;
 mod talk;

@@ -107,7 +107,7 @@ impl World {
             cuts: Vec::new(),
             delay,
         };
-        world.make_hosts(count, &mut draw);
+        world.make_hosts(count, &mut draw, &mut Draw::new(seed, "strict", 0));
         world.make_clients(seed, &mut draw, &mut own);
         world.make_faults(seed, calm_at, &asked.without);
         world.push(calm_at, Event::Calm);
@@ -115,7 +115,7 @@ impl World {
     }
 
     /// Makes the hosts, which start soon.
-    fn make_hosts(&mut self, count: usize, draw: &mut Draw) {
+    fn make_hosts(&mut self, count: usize, draw: &mut Draw, strict: &mut Draw) {
         let follows_all = draw.one_in(2);
         for at in 0..count {
             let others: Vec<usize> = (1..count).map(|step| (at + step) % count).collect();
@@ -155,10 +155,20 @@ impl World {
             });
             self.push(1 + draw.below(50_000), Event::Start(at));
         }
+        self.make_rules(strict);
         if let Some(plan) = self.plan {
             let keeper = &mut self.hosts[KEEPER];
             keeper.known.keep(plan, keeper.has_journal);
             self.kinds.clocks += 1;
+        }
+    }
+
+    /// Some hosts are strict, and who follows one with a clock learns what that one keeps.
+    fn make_rules(&mut self, draw: &mut Draw) {
+        let plan = self.plan;
+        for (at, host) in self.hosts.iter_mut().enumerate() {
+            host.known.is_strict = self.shape == Shape::Plain && draw.one_in(4);
+            host.known.elsewhere = plan.filter(|_| at != KEEPER && host.peers.contains(&KEEPER));
         }
     }
 

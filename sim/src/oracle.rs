@@ -238,6 +238,14 @@ impl State {
     }
 }
 
+impl State {
+    /// How many names of an origin have an event, and its greatest tag that has a name; the first where it has none.
+    pub fn counted(&self, origin: u64) -> (u64, Tag) {
+        let (events, _, last) = self.counts[origin as usize];
+        (events, last)
+    }
+}
+
 /// The outputs of a run, and the last total.
 fn run(names: &[Name]) -> (Vec<(Tag, i64)>, i64) {
     let mut total = 0i64;
@@ -303,6 +311,18 @@ impl History {
         }
         self.states.insert(count, state.clone());
         state
+    }
+
+    /// Whether a record, which is not among the first so many, would break an announcement that these do not.
+    pub fn breaks(&mut self, record: &Record, count: u32) -> bool {
+        if self.places.get(record).is_some_and(|place| *place <= count) {
+            return false;
+        }
+        let before = self.state(count);
+        let mut log = self.log[..count as usize].to_vec();
+        log.push(*record);
+        let behind = State::of(&log, self.program.width);
+        behind.broken.iter().any(|origin| !before.broken.contains(origin))
     }
 
     /// What all of them come to.

@@ -151,7 +151,7 @@ struct Tally {
 }
 
 /// The kinds that are counted, by their names; in how many worlds in a thousand each has to be at least.
-const KINDS: [(&str, u64); 23] = [
+const KINDS: [(&str, u64); 28] = [
     ("a kill", 200),
     ("a kill in mid-write", 20),
     ("a loss of power", 20),
@@ -175,6 +175,11 @@ const KINDS: [(&str, u64); 23] = [
     ("an input or a record that comes too late", 20),
     ("a restart of a host that keeps origins", 20),
     ("a clock behind a pause", 20),
+    ("an event too far ahead of a clock", 5),
+    ("a record that would break an announcement", 5),
+    ("a host that follows one with a clock, and leaves its origins to it", 5),
+    ("a client that sits on a seat", 10),
+    ("a client that comes back to a seat", 5),
 ];
 
 /// How often each kind was there.
@@ -203,6 +208,11 @@ fn counted(kinds: &Kinds) -> [u32; KINDS.len()] {
         kinds.late,
         kinds.keeper_restarts,
         kinds.pauses,
+        kinds.early,
+        kinds.strict,
+        kinds.followed,
+        kinds.seats,
+        kinds.returned,
     ]
 }
 

@@ -44,6 +44,8 @@ pub struct Durable {
     pub has_failed: bool,
     /// How many times the log was asked for from its beginning.
     pub beginnings: u32,
+    /// The number of the text of seats that was kept last.
+    pub seats: u64,
 }
 
 /// What the scribe is at.
@@ -71,6 +73,8 @@ pub struct Scribe {
     is_under_way: bool,
     done: VecDeque<(u32, Result<u32, ()>)>,
     least: u32,
+    /// The newest text of seats that was handed and is not kept, and its number.
+    pub seats: Option<(u64, String)>,
     /// When it does its next step.
     pub wakes_at: u64,
 }
@@ -88,6 +92,7 @@ impl Scribe {
             is_under_way: false,
             done: VecDeque::new(),
             least: 0,
+            seats: None,
             wakes_at: now,
         }
     }
@@ -171,6 +176,9 @@ impl World {
             }
             return self.wake_scribe(host, now + 1);
         }
+        self.keep_seats(host);
+        let it = &mut self.hosts[host];
+        let scribe = it.scribe.as_mut().expect("it is there");
         let mut taken = 0;
         while taken < RING {
             let Some(line) = scribe.next_handed() else { break };
@@ -190,6 +198,20 @@ impl World {
             rest = rest.min(since.saturating_add(it.when.interval()).saturating_sub(now)).max(1);
         }
         self.wake_scribe(host, now + rest);
+    }
+
+    /// Keeps the text of seats that was handed, where the disk takes it; else it is tried again.
+    fn keep_seats(&mut self, host: usize) {
+        let now = self.now;
+        let it = &mut self.hosts[host];
+        let scribe = it.scribe.as_mut().expect("it is there");
+        if now < it.disk.full_until || it.disk.fails(now) {
+            return;
+        }
+        let Some((number, text)) = scribe.seats.take() else { return };
+        it.disk.seats = text;
+        it.durable.seats = number;
+        self.wake_worker(host);
     }
 
     /// Writes what was taken, with a sum behind it where a sync is asked for.

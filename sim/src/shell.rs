@@ -74,6 +74,8 @@ pub struct Shell {
     /// How many records were handed to the journal, since the log was asked for from its beginning so many times.
     handed: u32,
     beginnings: u32,
+    /// The number of the text of seats that was handed to it last.
+    seats_handed: u64,
     pub is_over: bool,
     /// Its standard input.
     pub channel: Channel,
@@ -224,6 +226,7 @@ impl World {
         self.learn_log(host, &mut machine);
         self.look_at_kept(host);
         self.hand(host, &mut machine);
+        self.hand_seats(host, &mut machine);
         self.hosts[host].shell.has_more = more;
         self.rest(host, machine);
     }
@@ -569,6 +572,7 @@ impl World {
         self.hosts[host].shell.is_told_failing = self.hosts[host].durable.is_failing;
         let durable = &self.hosts[host].durable;
         machine.told_up_to(limit, durable.is_failing, durable.has_failed, now);
+        machine.seats_kept(durable.seats, now);
     }
 
     /// Does what the machine wants.
@@ -663,6 +667,12 @@ impl World {
             if !self.said.contains(&record) {
                 return self.fail(format!("the log of host {host} has what nobody said: {line}"));
             }
+            // What peers bring may break an announcement.
+            let it = &mut self.hosts[host];
+            let len = it.known.history.len();
+            if it.known.is_strict && it.peers.is_empty() && it.known.history.breaks(&record, len) {
+                return self.fail(format!("the log of host {host} has what breaks an announcement: {line}"));
+            }
             if !self.hosts[host].known_mut().history.push(record) {
                 return self.fail(format!("the log of host {host} has twice: {line}"));
             }
@@ -689,6 +699,17 @@ impl World {
         let looked = kept.look().and_then(|()| kept.look_at_released(&mut known.history));
         if let Err(why) = looked {
             self.fail(format!("host {host}: {why}"));
+        }
+    }
+
+    /// Hands the text of seats to the journal, where it is another than the last one.
+    fn hand_seats(&mut self, host: usize, machine: &mut Machine) {
+        let it = &mut self.hosts[host];
+        let Some(scribe) = &mut it.scribe else { return };
+        if let Some(handed) = machine.seats_since(it.shell.seats_handed) {
+            it.shell.seats_handed = handed.0;
+            scribe.seats = Some(handed);
+            self.nudge_scribe(host);
         }
     }
 

@@ -2,6 +2,7 @@
 
 use crate::keeping::{Kept, Plan, Sent};
 use crate::oracle::{History, Program, Record};
+use crate::seats::{SeatSaid, Seats};
 use crate::tokens::rights_in;
 use std::collections::{BTreeMap, BTreeSet, VecDeque};
 
@@ -25,6 +26,14 @@ pub struct Known {
     /// What it keeps, and how many inputs and records of clients came too late for that.
     pub kept: Option<Kept>,
     pub late: u32,
+    pub early: u32,
+    /// Nobody but a peer may break an announcement here, and how many of whose records would have.
+    pub is_strict: bool,
+    pub strict: u32,
+    /// What a host keeps that this one follows, and how many records of clients it refused for that.
+    pub elsewhere: Option<Plan>,
+    pub followed: u32,
+    pub seats: Seats,
     /// What is released stays, also when it begins anew.
     is_final: bool,
 }
@@ -44,6 +53,12 @@ impl Known {
             versions: Vec::new(),
             kept: None,
             late: 0,
+            early: 0,
+            is_strict: false,
+            strict: 0,
+            elsewhere: None,
+            followed: 0,
+            seats: Seats::default(),
             is_final: false,
         }
     }
@@ -51,6 +66,7 @@ impl Known {
     /// It keeps origins by this plan. Where it keeps all, and has a journal, what is released stays for good.
     pub fn keep(&mut self, plan: Plan, has_journal: bool) {
         self.is_final = plan.keeps_all() && has_journal;
+        self.seats = Seats::new(plan.offer, has_journal);
         self.kept = Some(Kept::new(plan));
     }
 
@@ -78,6 +94,7 @@ impl Known {
             self.shown.clear();
         }
         self.history.cut(count);
+        self.seats.begin_anew();
     }
 
     /// Whether it began more than once.
@@ -88,6 +105,32 @@ impl Known {
     /// The length of the log up to which a line may be answered by what was there when it was said.
     fn front_of(&self, asked: &Asked) -> u32 {
         if asked.begins == self.begins { asked.len } else { asked.len.min(self.kept_count) }
+    }
+
+    /// A record of a client, of which the program and what is kept have nothing to say, was refused so at some length of the log
+    /// from this one on, where it stands at this place.
+    fn note_refused(&mut self, record: &Record, number: u32, front: u32, there: Option<u32>) -> Result<(), String> {
+        let was_there = there.is_some_and(|place| place <= front);
+        let is_announcement = matches!(record, Record::Announce { .. } | Record::Joint { .. });
+        self.late += u32::from(number == 16);
+        self.early += u32::from(number == 19);
+        let is_right = match number {
+            21 => {
+                self.strict += 1;
+                self.is_strict && !was_there && self.may_break(record, front)
+            }
+            15 if self.kept.is_none() => {
+                self.followed += 1;
+                self.elsewhere.is_some_and(|plan| plan.speaks_of(record)) && (is_announcement || !was_there)
+            }
+            _ => self.kept.is_some(),
+        };
+        if is_right { Ok(()) } else { Err("it is to be taken".into()) }
+    }
+
+    /// Whether a record would break an announcement behind the first so many records, or behind more of them.
+    fn may_break(&mut self, record: &Record, front: u32) -> bool {
+        (front..=self.history.len()).any(|len| self.history.breaks(record, len))
     }
 
     /// Notes that this released output was shown, which is shown so each time.
@@ -118,6 +161,8 @@ pub enum Subject {
     Horizon,
     Breach,
     Steps,
+    /// Of a host that has some.
+    Seats,
 }
 
 impl Subject {
@@ -133,6 +178,7 @@ impl Subject {
             Subject::Horizon => "horizon",
             Subject::Breach => "breach",
             Subject::Steps => "steps",
+            Subject::Seats => "seats",
         }
     }
 }
@@ -155,6 +201,7 @@ pub enum What {
     Send(Sent),
     Clock,
     Keeps,
+    Seat(SeatSaid),
     /// What is refused with this number, whatever is there.
     Bad(u32),
 }
@@ -187,6 +234,15 @@ impl Rights {
         }
     }
 
+    /// Whether an origin's records may be sent.
+    fn may_send_for(&self, origin: u64) -> bool {
+        match self {
+            Rights::All | Rights::Unsure => true,
+            Rights::Origin(own) => *own == origin,
+            Rights::Unknown | Rights::Read => false,
+        }
+    }
+
     /// What `token` is answered.
     fn text(&self) -> String {
         match self {
@@ -214,6 +270,8 @@ struct Asked {
     /// How long the log was, and how many turns of a clock had told something new.
     len: u32,
     turns: usize,
+    /// The host's clock.
+    local: u64,
 }
 
 /// How far a watch is.
@@ -237,6 +295,9 @@ pub struct Talk {
     /// The longest log of which it was told.
     told: u32,
     watches: BTreeMap<Subject, Watch>,
+    /// The origin on whose seat it sits, and its secret.
+    pub seat: Option<u64>,
+    secret: String,
     /// What comes was said before the host began anew.
     pub is_past: bool,
     pub is_gone_slow: bool,
@@ -261,6 +322,8 @@ impl Talk {
             wrong_tokens: 0,
             told: 0,
             watches: BTreeMap::new(),
+            seat: None,
+            secret: String::new(),
             is_past: false,
             is_gone_slow: false,
             replies: 0,
@@ -281,6 +344,7 @@ impl Talk {
             end,
             len: known.history.len(),
             turns: known.kept.as_ref().map_or(0, Kept::turns),
+            local: known.seats.local,
         });
     }
 
@@ -307,6 +371,11 @@ impl Talk {
         self.asked.iter().any(|asked| matches!(asked.what, What::Token(_)))
     }
 
+    /// Whether it asked for a seat and has no answer to that.
+    pub fn waits_for_seat(&self) -> bool {
+        self.asked.iter().any(|asked| matches!(asked.what, What::Seat(SeatSaid::Join | SeatSaid::Back(_))))
+    }
+
     /// How many lines were not answered.
     pub fn waiting(&self) -> usize {
         self.asked.len()
@@ -330,6 +399,9 @@ impl Talk {
             asked.floor = asked.floor.min(known.kept_count);
         }
         self.replies += 1;
+        if self.seat.is_some() {
+            known.seats.note_alive(&self.secret, asked.local);
+        }
         let heard = self.hear_reply(&asked, text, limit, known);
         heard.map_err(|why| format!("{why}; to: {}; reply: {}", asked.line, short(text)))
     }
@@ -349,6 +421,7 @@ impl Talk {
             What::Bad(number) => Err(format!("it is to be refused {number}")),
             What::Record(record) => self.hear_taken(asked, record, text, refused, limit, known),
             What::Query => self.hear_answer(asked, text, limit, known),
+            What::Watch(Subject::Seats, _) | What::Unwatch(Subject::Seats) if known.seats.offer.is_none() => self.same(text, "refused 1"),
             What::Watch(subject, from) => {
                 let watch = Watch { next: *from, ..Watch::default() };
                 self.watches.insert(*subject, watch);
@@ -367,6 +440,7 @@ impl Talk {
             What::Release(at) => self.hear_release(asked, *at, text, limit, known),
             What::Send(sent) => self.hear_sent(asked, sent, text, refused, limit, known),
             What::Clock => self.hear_clock(asked, text, known),
+            What::Seat(said) => self.hear_seat(asked, said, text, refused, known),
             What::Keeps => self.same(text, known.kept.as_ref().map_or("keeps", |kept| kept.plan.told())),
             _ => Err("no such answer".into()),
         }
@@ -427,12 +501,21 @@ impl Talk {
         }
         let there = known.history.places.get(record).copied();
         let front = known.front_of(asked);
-        if known.kept.as_ref().is_some_and(|kept| !kept.is_refused_so(record, refused, front, there)) {
+        let is_seated = known.seats.has(record.origin()) && matches!(record, Record::Event { .. } | Record::Withdraw { .. });
+        let lacks_seat = is_seated && self.seat != Some(record.origin());
+        if refused == Some(20) {
+            let was_there = there.is_some_and(|place| place <= front);
+            return if is_seated && !was_there { self.lack(record.origin(), known) } else { Err("it wants no seat".into()) };
+        }
+        if lacks_seat && (text.starts_with("taken ") || matches!(refused, Some(19 | 21))) {
+            return Err("its client does not sit there".into());
+        }
+        let turns = if asked.begins == known.begins { asked.turns } else { 0 };
+        if known.kept.as_ref().is_some_and(|kept| !kept.is_refused_so(record, refused, front, there, turns)) {
             return Err("what is kept wants another answer".into());
         }
-        if refused.is_some() {
-            known.late += u32::from(refused == Some(16));
-            return if known.kept.is_some() { Ok(()) } else { Err("it is to be taken".into()) };
+        if let Some(number) = refused {
+            return known.note_refused(record, number, front, there);
         }
         let place = number(text, 1)?;
         if place == 0 || known.history.log.get(place as usize - 1) != Some(record) {
@@ -452,6 +535,59 @@ impl Talk {
         self.same(text, &format!("taken {place}"))
     }
 
+    /// It may not send for an origin, as it does not sit there; it may be that it did, and that its seat was freed.
+    fn lack(&mut self, origin: u64, known: &Known) -> Result<(), String> {
+        if self.seat != Some(origin) {
+            return Ok(());
+        }
+        self.seat = None;
+        if known.seats.may_be_lost(&self.secret) { Ok(()) } else { Err("it sits there".into()) }
+    }
+
+    /// A word on seats was answered.
+    fn hear_seat(&mut self, asked: &Asked, said: &SeatSaid, text: &str, refused: Option<u32>, known: &mut Known) -> Result<(), String> {
+        if known.seats.offer.is_none() {
+            return self.same(text, "refused 1");
+        }
+        let front = known.front_of(asked);
+        match said {
+            SeatSaid::Join if refused == Some(14) => {
+                let may_fail = asked.was_failing || known.is_failing || asked.failures != known.failures;
+                if may_fail { Ok(()) } else { Err("its journal can be written".into()) }
+            }
+            SeatSaid::Join if refused == Some(20) => Ok(()),
+            SeatSaid::Join => {
+                if self.seat.is_some() && !known.seats.may_be_lost(&self.secret) {
+                    return Err("it has a seat".into());
+                }
+                let rights = self.rights.clone();
+                let (origin, secret) = known.seats.hear_seat(|origin| rights.may_send_for(origin), text, asked.local)?;
+                (self.seat, self.secret) = (Some(origin), secret);
+                Ok(())
+            }
+            SeatSaid::Back(secret) => {
+                let came = known.seats.hear_back(self.seat, secret, text, &mut known.history, front)?;
+                if came.is_some() {
+                    (self.seat, self.secret) = (came, secret.clone());
+                    known.seats.note_alive(secret, asked.local);
+                }
+                Ok(())
+            }
+            SeatSaid::Leave => match self.seat.take() {
+                Some(_) if refused == Some(20) && known.seats.may_be_lost(&self.secret) => Ok(()),
+                Some(origin) => self.same(text, &format!("left {origin}")),
+                None => self.same(text, "refused 20"),
+            },
+            SeatSaid::Free(_) if self.rights != Rights::All => {
+                let is_right = refused == Some(13) || self.rights == Rights::Unsure;
+                if is_right { Ok(()) } else { Err("it may free none".into()) }
+            }
+            SeatSaid::Free(_) if refused == Some(20) => Ok(()),
+            SeatSaid::Free(origin) if known.seats.has(*origin) => self.same(text, &format!("freed {origin}")),
+            SeatSaid::Free(_) => Err("there is no such seat".into()),
+        }
+    }
+
     /// An input without a tag was answered.
     fn hear_sent(
         &mut self,
@@ -468,6 +604,14 @@ impl Talk {
         if refused == Some(14) {
             let may_fail = asked.was_failing || known.is_failing || asked.failures != known.failures;
             return if may_fail { Ok(()) } else { Err("its journal can be written".into()) };
+        }
+        if known.seats.has(sent.input) {
+            if refused == Some(20) {
+                return self.lack(sent.input, known);
+            }
+            if self.seat != Some(sent.input) {
+                return Err("its client does not sit there".into());
+            }
         }
         let (front, len) = (known.front_of(asked), known.history.len());
         let is_same = asked.begins == known.begins;
@@ -548,6 +692,7 @@ impl Talk {
                 let len = number(push, 1)?;
                 self.hear_value(Subject::Breach, len, push, limit, known)
             }
+            "seats" => self.hear_picture(push, known),
             "step" | "skipped" if self.watches.contains_key(&Subject::Steps) => Ok(()),
             "gone" if push == "gone slow" => {
                 self.is_gone_slow = true;
@@ -619,6 +764,13 @@ impl Talk {
         self.same(push, &expected)
     }
 
+    /// Who sits where.
+    fn hear_picture(&mut self, push: &str, known: &mut Known) -> Result<(), String> {
+        let watch = self.watches.get_mut(&Subject::Seats).ok_or("it is not watched")?;
+        watch.value = Some(push.to_string());
+        known.seats.hear_picture(push)
+    }
+
     /// What is missing at the end, where all of so long a log is told and read.
     pub fn missing(&self, len: u32, known: &mut Known) -> Option<String> {
         if let Some(asked) = self.asked.front() {
@@ -630,6 +782,7 @@ impl Talk {
                 Subject::Log => watch.next > len,
                 Subject::Released => !state.broken.is_empty() || watch.next as usize >= state.released,
                 Subject::Steps => true,
+                Subject::Seats => watch.value.is_some(),
                 _ => {
                     let expected = value_at(*subject, len, known);
                     watch.len > len || watch.value.as_deref() == Some(expected.splitn(3, ' ').nth(2).unwrap_or(""))

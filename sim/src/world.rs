@@ -142,6 +142,11 @@ pub struct Kinds {
     pub resets: u32,
     pub clocks: u32,
     pub late: u32,
+    pub early: u32,
+    pub strict: u32,
+    pub followed: u32,
+    pub seats: u32,
+    pub returned: u32,
     pub keeper_restarts: u32,
     pub pauses: u32,
     pub replies: u64,
@@ -410,6 +415,11 @@ impl World {
         bytes[8..].copy_from_slice(&keys[1].to_le_bytes());
         let (program, peers) = (file_of(&self.program), peers.concat());
         let kept = self.plan.filter(|_| host == KEEPER).map_or(Vec::new(), |plan| plan.numbers());
+        let offer = self.hosts[host].known.seats.offer;
+        let is_filed = self.hosts[host].has_journal;
+        let secret = [keys[0], keys[1], host as u64, self.hosts[host].epoch];
+        let seats = offer.map_or(Vec::new(), |offer| offer.numbers(is_filed, secret));
+        let text = self.hosts[host].disk.seats.clone();
         self.aims.clear();
         let version = self.begin_tokens(host);
         let start = Start {
@@ -419,6 +429,9 @@ impl World {
             tokens: if self.has_tokens { VERSIONS[version].as_bytes() } else { b"" },
             peers: peers.as_bytes(),
             kept: &kept,
+            is_strict: self.hosts[host].known.is_strict,
+            seats: &seats,
+            text: text.as_bytes(),
             clients: self.most_clients,
         };
         let now = self.clock(host);
@@ -565,6 +578,11 @@ impl World {
             self.kinds.pushes += pushes;
         }
         self.kinds.late = self.hosts[KEEPER].known.late;
+        self.kinds.early = self.hosts[KEEPER].known.early;
+        self.kinds.seats = self.hosts[KEEPER].known.seats.told;
+        self.kinds.returned = self.hosts[KEEPER].known.seats.returned;
+        self.kinds.strict = self.hosts.iter().map(|host| host.known.strict).sum();
+        self.kinds.followed = self.hosts.iter().map(|host| host.known.followed).sum();
         self.kinds.records = u64::from(self.hosts[0].known.history.len());
         self.note("the end", 0);
     }

@@ -129,6 +129,60 @@ hosted("the clock of a host is known between its answers", ["--clock", "100"], a
   }
 })
 
+hosted("each client that joins has a seat of its own, and who watches knows who sits where", ["--clock", "50", "--seats", "all"], async ({ connect }) => {
+  const [one, two] = await Promise.all([connect(), connect()])
+  /** @type {any[]} */
+  const rows = []
+  await two.watch("seats", row => rows.push(row.map((/** @type {any} */ it) => it.state).join(" "))).started
+  await until(() => rows.length === 1)
+  assert.deepEqual(two.seats, [{ origin: 0, state: "free" }, { origin: 1, state: "free" }])
+  assert.equal(one.seat, null)
+  await assert.rejects(one.send("r.a", 3), error => refusedBy(20)(error) && /^no seat: /.test(error.meaning))
+  const seat = await one.join()
+  assert.deepEqual([seat.origin, one.seat], [0, seat])
+  assert.match(seat.secret, /^[0-9a-f]{32}$/)
+  const { place } = await one.send("r.a", 3)
+  await assert.rejects(one.send("r.b", 3), refusedBy(20))
+  await assert.rejects(one.join(), refusedBy(20))
+  // On another page the seat is that one's; the former client loses its connection, and comes back in its turn: so it is closed before.
+  one.close()
+  const page = await connect()
+  assert.deepEqual(await page.back(seat.secret), { origin: 0, secret: seat.secret, count: 1, last: place })
+  await page.send("r.a", 4)
+  await page.leave()
+  assert.equal(page.seat, null)
+  await assert.rejects(page.leave(), refusedBy(20))
+  await assert.rejects(page.back(seat.secret), refusedBy(20))
+  await assert.rejects(page.free(64), RangeError)
+  await page.join()
+  await two.free(0)
+  await assert.rejects(page.send("r.a", 5), refusedBy(20))
+  await until(() => two.seats[0].state === "free")
+  assert.deepEqual(rows.filter(it => !it.startsWith("away")), ["free free", "taken free", "taken free", "free free", "taken free", "free free"])
+})
+
+hosted("a client comes back to its seat over a lost connection, also over a restart of its host", [
+  "--clock", "50", "--seats", "all", "--journal", fileOf("seats.log", ""),
+], async ({ connect, host }) => {
+  const client = await connect()
+  const seat = await client.join()
+  const { place } = await client.send("r.a", 3)
+  await host.stop()
+  await until(() => client.state === "connecting")
+  // What is said meanwhile waits for a connection, and comes behind what has the seat again.
+  const sent = client.send("r.a", 4)
+  await host.start()
+  assert.ok((await sent).place > place)
+  assert.deepEqual(client.seat, seat)
+  const other = await connect()
+  await other.free(0)
+  await host.stop()
+  await host.start()
+  // The host says that there is no such seat any more: so there is no own one.
+  await until(() => client.connections === 3 && client.seat === null)
+  await assert.rejects(client.send("r.a", 4), refusedBy(20))
+})
+
 test("a host without a clock keeps nothing, and says so", { timeout: SECONDS }, async () => {
   const host = new Host(await freePort(), [], fileOf("hosted.json", TEXT))
   await host.start()
@@ -137,6 +191,7 @@ test("a host without a clock keeps nothing, and says so", { timeout: SECONDS }, 
     assert.deepEqual(await client.keeps(), [])
     await assert.rejects(client.send("r.a", 1), refusedBy(15))
     await assert.rejects(client.clock.ready, refusedBy(1))
+    for (const call of [() => client.join(), () => client.leave(), () => client.free(0)]) await assert.rejects(call(), refusedBy(1))
   } finally {
     client.close()
     await host.stop()

@@ -2,6 +2,7 @@
 // browsers.
 
 const LONG = "9".repeat(1_000_000)
+const SECRET = "0123456789abcdef0123456789abcdef"
 
 /**
  * Replies of another kind than the line asks for, with a number that no reply has, or spelled as none is.
@@ -30,7 +31,9 @@ export const NO_REPLIES = {
   "send 0 3": ["taken 1", "known 1", "sent 0 5 0", "sent 1 5", "sent 1 5 256", "sent 1 15625001 0", "sent 1 5 0 0", "none 0"],
   keeps: ["keeps *", "keeps 64", "keeps 0 x", "keeps all 0", "keeps ALL", `keeps${" 0".repeat(65)}`, "clock 1 2 3", "none 0"],
   clock: ["clock", "clock 1 2", "clock 1 2 0", "clock 1 2 1001", "clock -1 2 3", "clock 1 2.5 3", "keeps all", "none"],
-  "watch log 1": ["watching 8", "may *"], "unwatch log": ["may *"], "token T": ["may all", "watching 1", "may 64", "may 0 x"],
+  join: ["taken 1", "seat", "seat 0", `seat 64 ${SECRET}`, `seat 0 ${SECRET.slice(1)}`, `seat 0 ${SECRET.toUpperCase()}`, `seat 0 ${SECRET} 1`, `seat 0 ${SECRET} 1 10000001`, `seat 0 ${SECRET} 1 2 3`],
+  leave: ["left", "left 64", "freed 0", `seat 0 ${SECRET}`], "free 0": ["freed", "freed 64", "left 0", "taken 1"],
+  "watch log 1": ["watching 9", "may *"], "unwatch log": ["may *"], "token T": ["may all", "watching 1", "may 64", "may 0 x"],
   nonsense: ["taken 1", "nonsense 1", "constructor 1"],
 }
 

@@ -13,7 +13,7 @@ const rows = text.split("\n").filter(line => line.startsWith("| ")).slice(1).map
 const callsOf = column => rows.flatMap(cells => [...cells[column].matchAll(/\bc\.(\w+)/g)].map(it => it[1]))
 
 test("the table's calls of JavaScript are there", () => {
-  const fields = new Set(["vars", "names", "clock", "onstate"])
+  const fields = new Set(["vars", "names", "clock", "seat", "seats", "onstate"])
   const calls = callsOf(2)
   assert.ok(calls.length > 20)
   const client = new Client("ws://127.0.0.1:1/ws", { WebSocket: class { close() {} } })
@@ -23,7 +23,7 @@ test("the table's calls of JavaScript are there", () => {
 })
 
 test("the table's calls of Python are there", () => {
-  const calls = callsOf(1).filter(it => it !== "names" && it !== "clock")
+  const calls = callsOf(1).filter(it => !["names", "clock", "seat", "seats"].includes(it))
   assert.ok(calls.length > 20)
   const code = `import warpd, sys
 print([it for it in sys.argv[1:] if not callable(getattr(warpd.HostClient, it, None))])

@@ -38,7 +38,7 @@ from .wire import LONGEST, Pipes, Wire
 __all__ = [
     "Announce", "AnnounceAll", "Announcer", "Board", "Breach", "Broken", "Carrier", "Cells", "Client", "Collected", "Count", "Counts",
     "Differ", "Digest", "Due", "Ended", "Entry", "Event", "Frozen", "Horizon", "HostClient", "HostClock", "Known", "Logged", "Names",
-    "Nothing", "Output", "Push", "Reached", "Record", "Refused", "Released", "Rollback", "Row", "Sent", "Shape", "Skipped", "Step", "Tag",
+    "Nothing", "Output", "Push", "Reached", "Record", "Refused", "Released", "Rollback", "Row", "Seat", "SeatState", "Sent", "Shape", "Skipped", "Step", "Tag",
     "Taken", "Var", "Variables", "Withdraw", "carry",
 ]
 # So many lines are sent before their replies are read: they fit into the buffers on the way, so neither side waits for the other.
@@ -652,5 +652,5 @@ def carry(addresses: Sequence[tuple[str, int]], pause: float = 0.05, timeout: fl
 
 
 from .hosted import (  # noqa: E402 (which stands on all of this)
-    Broken, Digest, Due, Frozen, HostClient, HostClock, Logged, Push, Released, Rollback, Skipped, Step, Variables,
+    Broken, Digest, Due, Frozen, HostClient, HostClock, Logged, Push, Released, Rollback, Seat, SeatState, Skipped, Step, Variables,
 )

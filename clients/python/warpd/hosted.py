@@ -13,7 +13,7 @@ from collections import deque
 from collections.abc import Callable, Iterator
 from typing import NamedTuple, Optional, TypeVar, Union
 
-from . import Cells, Client, Counts, Ended, Horizon, Names, Output, Reached, Record, Sent, Tag, cut, record_of, reply_of
+from . import Cells, Client, Counts, Ended, Horizon, Names, Output, Reached, Record, Refused, Sent, Tag, cut, record_of, reply_of
 from .ticking import HostClock
 from .replies import (
     COUNT, FLAG, LOG, MICRO, MOST_CELLS, MOST_ORIGINS, MOST_PORTS, MOST_VALUES, MOST_VARIABLES, NUMBER, ORIGIN, PLACE, PORT, TIME,
@@ -30,7 +30,7 @@ DIGEST = re.compile(r"[0-9a-f]{32}", re.ASCII)
 # What reading a text raises that is not of its form.
 MALFORMED = (AttributeError, KeyError, IndexError, TypeError, ValueError, RecursionError)
 # What can be watched, and where it begins where no place is given.
-SUBJECTS = {"log": 1, "released": 0, "vars": None, "cells": None, "horizon": None, "breach": None, "steps": None}
+SUBJECTS = {"log": 1, "released": 0, "vars": None, "cells": None, "horizon": None, "breach": None, "seats": None, "steps": None}
 
 
 class Program(NamedTuple):
@@ -53,6 +53,23 @@ class Releases(NamedTuple):
     log: int
     count: int
     frozen: bool
+
+
+class Seat(NamedTuple):
+    """A seat: who has it alone sends for its origin, and comes back to it with its secret. `count` names of the origin have an event, and
+    that of the last of these stands at the place `last`, 0 where there is none; both are 0 of a seat that was just taken."""
+
+    origin: int
+    secret: str
+    count: int
+    last: int
+
+
+class SeatState(NamedTuple):
+    """The seat of an origin, and whether it is "free", "taken", or kept for who is "away"."""
+
+    origin: int
+    state: str
 
 
 class Digest(NamedTuple):
@@ -126,7 +143,7 @@ class Skipped(NamedTuple):
     count: int
 
 
-Push = Union[Logged, Released, Frozen, Variables, Cells, Horizon, Broken, Step, Rollback, Skipped]
+Push = Union[Logged, Released, Frozen, Variables, Cells, Horizon, Broken, Step, Rollback, Skipped, tuple[SeatState, ...]]
 
 
 def _subject(what: str) -> str:
@@ -226,6 +243,7 @@ PUSHES: dict[str, tuple[str, Callable[[list[str]], Push]]] = {
     "cells": ("cells", lambda words: _cells_of(" ".join(words))),
     "horizon": ("horizon", _horizon_of),
     "breach": ("breach", _broken_of),
+    "seats": ("seats", lambda words: _seats_of(words)),
     "step": ("steps", lambda words: _step_of(json_of(" ".join(words)))),
     "skipped": ("steps", lambda words: Skipped(*numbers_of(words, COUNT))),
 }
@@ -271,6 +289,21 @@ def _digest_of(text: str) -> Digest:
     return Digest(number_of(log, LOG), digits)
 
 
+def _seat_of(text: str) -> Seat:
+    origin, secret, *more = text.split(" ")
+    if not DIGEST.fullmatch(secret):
+        raise ValueError(secret)
+    count, last = numbers_of(more, COUNT, LOG) if more else (0, 0)
+    return Seat(number_of(origin, ORIGIN), secret, count, last)
+
+
+def _seats_of(words: list[str]) -> tuple[SeatState, ...]:
+    states = words[1::2]
+    if len(words) % 2 or not set(states) <= {"free", "taken", "away"}:
+        raise ValueError("each seat has a state")
+    return tuple(SeatState(number_of(origin, ORIGIN), state) for origin, state in zip(words[::2], states))
+
+
 def _clock_of(text: str) -> tuple[int, int]:
     _, milliseconds, hertz = numbers_of(text.split(" "), COUNT, COUNT, HERTZ)
     return milliseconds, hertz
@@ -309,6 +342,9 @@ class HostClient(Client):
         self._waiting: dict[str, deque[Push]] = {}
         self._next: dict[str, Union[int, str, None]] = {}
         self._cells: Optional[Cells] = None
+        # The own seat, to which the client comes back where it connects anew; and who sits where, as a watch of "seats" keeps it.
+        self.seat: Optional[Seat] = None
+        self.seats: tuple[SeatState, ...] = ()
         # What the host's clock says: `clock.now()` is the tick that it is.
         self.clock = HostClock(self._ask_clock)
         super().__init__(host, port, timeout)
@@ -318,6 +354,7 @@ class HostClient(Client):
         try:
             with self._wire.call():
                 self._greet()
+                self._sit_again()
                 for what, place in self._next.items():
                     self._word(_watch_line(what, place), "watching")
         except BaseException:
@@ -328,6 +365,15 @@ class HostClient(Client):
         if self._token is not None:
             self._word(f"token {self._token}", "may")
         self.names = self._told("names", Names.of)
+
+    def _sit_again(self) -> None:
+        """Has the own seat again, if there is one; where the host refuses that there is none any more."""
+        if self.seat is None:
+            return
+        try:
+            self.back(self.seat.secret)
+        except Refused:
+            self.seat = None
 
     def _text(self, line: str) -> str:
         """The next reply; pushes in front of it are kept for who watches."""
@@ -345,6 +391,8 @@ class HostClient(Client):
         what, push = found
         if isinstance(push, Cells):
             push = self._cells = _with_cells(self._cells, push)
+        if what == "seats":
+            self.seats = push
         if what in self._waiting:
             self._waiting[what].append(push)
             if isinstance(push, (Logged, Released)):
@@ -410,6 +458,34 @@ class HostClient(Client):
         """The origins that the host keeps, in rising order: it announces for them by its clock."""
         return self._told("keeps", lambda text: _kept_of(text, self.names.origins))
 
+    def join(self) -> Seat:
+        """Gets a seat: from then on this client alone sends for its origin, and comes back to it where it connects anew. Where none is free
+        that is a `Refused`, number 20. It is not safe to repeat."""
+        self.seat = self._sits("join")
+        return self.seat
+
+    def back(self, secret: str) -> Seat:
+        """Comes back to the seat of this secret. Who sat there until now is told nothing more."""
+        self.seat = self._sits(f"back {secret}")
+        return self.seat
+
+    def leave(self) -> None:
+        """Leaves the own seat: it is free for others."""
+        self._word("leave", "left")
+        self.seat = None
+
+    def free(self, origin: int) -> None:
+        """Frees the seat of an origin, whoever sits there: who may send all may."""
+        self._word(f"free {origin}", "freed")
+
+    def _sits(self, line: str) -> Seat:
+        text = self._word(line, "seat")
+        try:
+            return _seat_of(text.partition(" ")[2])
+        except MALFORMED:
+            self.close()
+            raise no_reply(line, f": {cut(text)}") from None
+
     def _ask_clock(self) -> tuple[int, int]:
         """How many milliseconds lie behind tick 0 of the host's clock, and how many ticks it has a second."""
         return self._told("clock", _clock_of)
@@ -420,7 +496,7 @@ class HostClient(Client):
 
     def watch(self, what: str, start: Union[int, str, tuple[int, int], None] = None) -> Iterator[Push]:
         """Watches "log" or "released" (from `start` on, or from the first), "vars", "cells" (`start` is the name of an array, or
-        the number of the first and how many, at most 4,096; each push has all of them), "horizon", "breach", or "steps" (what
+        the number of the first and how many, at most 4,096; each push has all of them), "horizon", "breach", "seats" (who sits where), or "steps" (what
         the host executes from then on), and gives each push. The next one is waited for without an end; `pushed` has what
         came without waiting. What is not taken waits in memory, up to `unwatch`. Watching the same again begins anew; where
         that is refused, the watch that was there goes on. A start for what has none is a ValueError."""

@@ -21,6 +21,8 @@ MEANINGS = {
     15: "only the host announces for an origin that it keeps, and only for such a one it takes what is sent",
     16: "late: the host has announced that nothing more comes before", 17: "another event has this name",
     18: "crowded: this tick has as many inputs of the origin as the host takes",
+    19: "early: the host takes no event so far ahead of its clock",
+    20: "no seat: none is free, the secret is none, or this client does not sit there", 21: "that would break an announcement",
 }
 # No program has more, of any version.
 MOST_ORIGINS, MOST_VARIABLES, MOST_PORTS = 64, 1_024, 256

@@ -1,6 +1,6 @@
 //! Following the log of a peer. The first line, `program V X`, tells the own program; behind it stands `token T` or
-//! `first T` where the peer wants a token, behind its program or first. Each further line is a call, and what it said to
-//! the peer and handed on is told behind it:
+//! `first T` where the peer wants a token, behind its program or first, or `keeps O` where this host keeps an origin. Each
+//! further line is a call, and what it said to the peer and handed on is told behind it:
 //!
 //! - `connect` begins a connection, `lose` ends it, `again` asks a `serve` again after a pause;
 //! - `peer TEXT` is a line of the peer, `part TEXT` bytes of it without a line feed;
@@ -9,7 +9,7 @@ use crate::lines::{form_of, word_of};
 use crate::mark::{begin, end};
 use crate::transcript::{NO_MEMORY, Transcript};
 use std::alloc::{AllocError, Global};
-use warp_hub::{Follower, PeerEvent, PeerToken};
+use warp_hub::{Follower, MOST_ORIGINS, PeerEvent, PeerToken};
 use warp_tag::Form;
 
 /// What a follower said and handed on.
@@ -42,6 +42,7 @@ pub(crate) fn perform(alloc: Global, out: &mut Transcript, program: &str, lines:
 
 /// A new follower, by the line that tells the own program and the token.
 fn follower_of(alloc: Global, form: Form, line: &str) -> Result<Follower, AllocError> {
+    let (line, own) = own_of(line);
     let (program, said) = match line.split_once(" first ") {
         Some((program, said)) => (program, Some((said, true))),
         None => match line.split_once(" token ") {
@@ -57,7 +58,33 @@ fn follower_of(alloc: Global, form: Form, line: &str) -> Result<Follower, AllocE
         }
         None => None,
     };
-    Ok(Follower::new(form, program, token))
+    Ok(Follower::new(form, program, own, token))
+}
+
+/// The line without the origin that is kept, and which origins are kept.
+fn own_of(line: &str) -> (&str, [bool; MOST_ORIGINS]) {
+    let mut own = [false; MOST_ORIGINS];
+    let Some((rest, number)) = line.split_once(" keeps ") else {
+        return (line, own);
+    };
+    if let Ok(origin) = number.parse::<usize>() {
+        if origin < MOST_ORIGINS {
+            own[origin] = true;
+        }
+    }
+    (rest, own)
+}
+
+/// Tells which origins the peer keeps, where it told that.
+fn say_keeps(out: &mut Transcript, follower: &mut Follower) {
+    let Some(kept) = follower.take_keeps() else {
+        return;
+    };
+    for (origin, flag) in kept.iter().enumerate() {
+        if *flag {
+            out.say(format_args!("kept there {origin}"));
+        }
+    }
 }
 
 /// The form of the program that a line tells.
@@ -99,6 +126,7 @@ fn make_call(
     if follower.is_level() {
         out.say("level");
     }
+    say_keeps(out, follower);
 }
 
 /// Tells that there was no memory for a call, where that is so.
@@ -132,6 +160,8 @@ fn say_event(out: &mut Transcript, event: Option<PeerEvent>) {
         Some(PeerEvent::Untold) => out.say("its program is not told"),
         Some(PeerEvent::Strange) => out.say("strange"),
         Some(PeerEvent::NoMemory) => out.say(NO_MEMORY),
+        Some(PeerEvent::KeepsToo { origin }) => out.say(format_args!("keeps {origin} too")),
+        Some(PeerEvent::NotTaken { place }) => out.say(format_args!("not taken at {place}")),
         Some(PeerEvent::Refused { place, refusal }) => {
             out.say(format_args!("refused {} at {place}", refusal.number()));
         }

@@ -1,6 +1,6 @@
 -- One client, by what is done for it.
 use Rattle.std.proofs.Common.{◌≡◌, ◌⊎◌, ℕ, zero, ◌+◌, ◌-◌, Bool, true, false, List, [], ◌∷◌, ◌++◌, length, map, Option, Some, None, refl, sym, ap, ◌∙◌, subst, inl, inr, arith, append_assoc, append-nil, length-append, true≢false}
-use Rattle.std.specs.Prelude.{IsTrue, if◌then◌else◌}
+use Rattle.std.specs.Prelude.{◌&&◌, IsTrue, if◌then◌else◌, not}
 use Rattle.std.proofs.lemmas.Bool.{cases_Bool}
 use Rattle.std.proofs.lemmas.List.{map-append}
 use Rattle.warp_record.specs.Lines.{Piece, Whole, Long, Torn}
@@ -9,6 +9,7 @@ use Rattle.warp_record.specs.declared.line.Line.{Line}
 use Rattle.warp_record.specs.declared.line.Line.TheVariants as line
 use Rattle.warp_record.specs.declared.reply.Refusal.TheVariants as refusal
 use Rattle.warp_hub.specs.Rights.{is_known, may_send}
+use Rattle.warp_hub.specs.Words.{is_of_seats}
 use Rattle.warp_hub.specs.declared.commons.Facts.{Facts}
 use Rattle.warp_hub.specs.declared.rights.Rights.{Rights}
 use Rattle.warp_hub.specs.declared.words.Word.{Word}
@@ -74,16 +75,21 @@ may_word r word.Digest = may_known r (is_known r) (saying.Word word.Digest) refl
 may_word r word.Keeps = may_known r (is_known r) (saying.Word word.Keeps) refl
 may_word r word.Clock = may_known r (is_known r) (saying.Word word.Clock) refl
 may_word r (word.Send sent) = may_known r (is_known r) (saying.Word (word.Send sent)) refl
+may_word r (word.Seat said) = may_known r (is_known r) (saying.Word (word.Seat said)) refl
 may_word r (word.Release number) = may_known r (is_known r) (saying.Word (word.Release number)) refl
 may_word r (word.Counts origin) = may_known r (is_known r) (saying.Word (word.Counts origin)) refl
 may_word r (word.Reached origin) = may_known r (is_known r) (saying.Word (word.Reached origin)) refl
 may_word r (word.Watch what) = may_known r (is_known r) (saying.Word (word.Watch what)) refl
 may_word r (word.Unwatch what) = may_known r (is_known r) (saying.Word (word.Unwatch what)) refl
 
+may_unknown : (r : Rights) (b : Bool) (s : Saying) → May r (room_line s) → May r (room_line (if b then none_saying r else s))
+may_unknown r true s may = may_known r (is_known r) (saying.Refuse refusal.Syntax) refl
+may_unknown r false s may = may
+
 may_text : (f : Facts) (r : Rights) (failing : Bool) (bytes : List ℕ) (s : Saying) → IsTextSaying f r failing bytes s → May r (room_line s)
 may_text f r failing bytes s (inl l) = subst (λ (x : Saying). May r (room_line x)) (sym l.3) (may_said r failing l.0 (may_send r l.0) refl)
 may_text f r failing bytes s (inr (inl t)) = subst (λ (x : Saying). May r (room_line x)) (sym t.3) tt
-may_text f r failing bytes s (inr (inr (inl w))) = subst (λ (x : Saying). May r (room_line x)) (sym w.3) (may_word r w.0)
+may_text f r failing bytes s (inr (inr (inl w))) = subst (λ (x : Saying). May r (room_line x)) (sym w.3) (may_unknown r (is_of_seats w.0 && not f.has_seats) (word_saying r w.0) (may_word r w.0))
 may_text f r failing bytes s (inr (inr (inr n))) =
     subst (λ (x : Saying). May r (room_line x)) (sym n.1) (may_known r (is_known r) (saying.Refuse refusal.Syntax) refl)
 

@@ -24,6 +24,7 @@ announces_work tag below room.Executed h = tt
 announces_work tag below (room.Answered one) h = tt
 announces_work tag below (room.Handed one) h = h
 announces_work tag below (room.Said one answer) h = tt
+announces_work tag below (room.Ruled rules) h = tt
 
 works_inner : (steps : List RoomStep) → AreInner (map (λ (one : RoomStep). step.Works one) steps)
 works_inner [] = tt
@@ -55,8 +56,9 @@ module _ {T : Type 0} (facts : TimelineFacts T) where
 
   pub sent_run : (most : ℕ) (input : Input) (asked : Moment) (result : Result Sent Unsent) (s s' : ClientsState T)
       → EndsSending facts most input asked result s.room s'.room → s'.crowd ≡ s.crowd → SomeRun facts s s'
-  sent_run most input asked (Ok sent) s s' e crowd = run_one facts (step.Works (room.Said _ e.1.0)) s s' tt (tt, e.1.1, crowd)
+  sent_run most input asked (Ok sent) s s' e crowd = run_one facts (step.Works (room.Said _ e.2.0)) s s' tt (tt, e.2.1, crowd)
   sent_run most input asked (Err unsent.NotKept) s s' e crowd = run_none facts s s' (λ i. record { room = e.1 i; crowd = crowd i })
   sent_run most input asked (Err unsent.Crowded) s s' e crowd = run_none facts s s' (λ i. record { room = e.1 i; crowd = crowd i })
+  sent_run most input asked (Err unsent.Early) s s' e crowd = run_none facts s s' (λ i. record { room = e.1 i; crowd = crowd i })
   sent_run most input asked (Err (unsent.Refused refusal)) s s' e crowd =
-      run_one facts (step.Works (room.Said _ e.1.1.0)) s s' tt (tt, e.1.1.1, crowd)
+      run_one facts (step.Works (room.Said _ e.1.2.0)) s s' tt (tt, e.1.2.1, crowd)

@@ -410,6 +410,10 @@ module _ {T : Type 0} (facts : TimelineFacts T) where
       told_still tales s s' (ap (λ (c : CrowdState). c.clients) does.2) (λ v. own_said facts s.room s'.room one answer v does.1)
       (let same : s'.room.queues.came ≡ s.room.queues.came = ap (λ (r : RoomState T). r.queues.came) does.1.leaves in omega (arith, same))
       (older_kept facts (room.Said one answer ∷ []) s.room s'.room (s'.room, does.1, refl) told.older) told
+  told_works (room.Ruled rules) tales s s' does told =
+      told_still tales s s' (ap (λ (c : CrowdState). c.clients) does.2) (λ v. ap (λ (r : RoomState T). open_lines r v) does.1)
+      (let same : s'.room.queues.came ≡ s.room.queues.came = ap (λ (r : RoomState T). r.queues.came) does.1 in omega (arith, same))
+      (older_kept facts (room.Ruled rules ∷ []) s.room s'.room (s'.room, does.1, refl) told.older) told
 
   told_rest : (tales : Tales) (s s' : ClientsState T) → s'.room ≡ s.room → s'.crowd.clients ≡ s.crowd.clients → AreTold tales s → AreTold tales s'
   told_rest tales s s' room_same same told =

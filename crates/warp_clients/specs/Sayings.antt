@@ -1,5 +1,5 @@
 -- What a line is read to be, and what is answered to it here.
-use Rattle.std.specs.Prelude.{◌≡◌, ◌⊎◌, ◌≤◌, ◌+◌, ◌&&◌, ℕ, Bool, true, false, List, [], ◌∷◌, ◌++◌, Option, Some, None, codes, decimal, if◌then◌else◌}
+use Rattle.std.specs.Prelude.{◌≡◌, ◌⊎◌, ◌≤◌, ◌+◌, ◌&&◌, ℕ, Bool, true, false, List, [], ◌∷◌, ◌++◌, Option, Some, None, codes, decimal, not, if◌then◌else◌}
 use Rattle.std.specs.List.{join_with_byte}
 use Rattle.sha2.specs.Sha256.{sha256}
 use Rattle.warp_record.specs.declared.line.Line.{Line}
@@ -18,7 +18,7 @@ use Rattle.warp_hub.specs.declared.tokens.Entry.{Entry}
 use Rattle.warp_hub.specs.Rights.{is_known, may_send}
 use Rattle.warp_hub.specs.Said.{IsSaid}
 use Rattle.warp_hub.specs.Tokens.{rights_of}
-use Rattle.warp_hub.specs.Words.{IsToken, IsWord, token_spelling, word_spelling}
+use Rattle.warp_hub.specs.Words.{IsToken, IsWord, is_of_seats, token_spelling, word_spelling}
 use Rattle.warp_clients.specs.declared.saying.Saying.{Saying}
 use Rattle.warp_clients.specs.declared.saying.Saying.TheVariants as saying
 use Rattle.warp_clients.specs.declared.sending.ClockTold.{ClockTold}
@@ -56,12 +56,16 @@ word_saying r said = if is_known r then saying.Word said else saying.NotAllowed
 abbrev pub none_saying : Rights → Saying
 none_saying r = if is_known r then saying.Refuse refusal.Syntax else saying.NotAllowed
 
+-- a word on seats is none of them at a host without seats
+abbrev pub known_saying : Facts → Rights → Word → Saying
+known_saying f r said = if is_of_seats said && not f.has_seats then none_saying r else word_saying r said
+
 -- a whole line is read to be this by who has these rights, while records are refused or not
 abbrev pub IsTextSaying : Facts → Rights → Bool → List ℕ → Saying → Type 0
 IsTextSaying f r failing bytes s =
     ((said : Line) × IsLine f.form said × (bytes ≡ spelling said) × (s ≡ line_saying r failing said))
     ⊎ (((token : List ℕ) × IsToken token × (bytes ≡ token_spelling token) × (s ≡ saying.Token (given_of f.tokens token)))
-    ⊎ (((said : Word) × IsWord said × (bytes ≡ word_spelling said) × (s ≡ word_saying r said))
+    ⊎ (((said : Word) × IsWord said × (bytes ≡ word_spelling said) × (s ≡ known_saying f r said))
     ⊎ ((IsSaid f.form bytes → ⊥) × (s ≡ none_saying r))))
 
 -- a line as it was cut is read to be this
@@ -70,7 +74,7 @@ IsSaying f r failing (Whole bytes) s = IsTextSaying f r failing bytes s
 IsSaying f r failing Long s = s ≡ saying.Refuse refusal.TooLong
 IsSaying f r failing Torn s = s ≡ saying.Refuse refusal.Syntax
 
--- a word that is asked of the replica or the room
+-- a word that is asked of the replica, the room or who has seats
 abbrev pub IsAsked : Word → Type 0
 IsAsked word.Program = ⊥
 IsAsked word.Names = ⊥
@@ -81,6 +85,7 @@ IsAsked word.Digest = Unit {0}
 IsAsked word.Keeps = Unit {0}
 IsAsked word.Clock = ⊥
 IsAsked (word.Send sent) = Unit {0}
+IsAsked (word.Seat said) = Unit {0}
 IsAsked (word.Release number) = Unit {0}
 IsAsked (word.Counts origin) = Unit {0}
 IsAsked (word.Reached origin) = Unit {0}
@@ -103,7 +108,7 @@ clock_line (Some c) =
 
 -- the answer to a word that begins or ends a watch: how many things the client watches then
 abbrev pub IsWatching : List ℕ → Type 0
-IsWatching text = (count : ℕ) × (count ≤ 7) × (text ≡ codes "watching " ++ (48 + count) ∷ 10 ∷ [])
+IsWatching text = (count : ℕ) × (count ≤ 8) × (text ≡ codes "watching " ++ (48 + count) ∷ 10 ∷ [])
 
 -- The texts that are answered here, by what the host knows from its start and what its clock says. Of a word that is asked about the
 -- replica or the room, and of a look, the answer is given with the step that tells it.

@@ -14,6 +14,7 @@ use Rattle.warp_keep.specs.Kept.{AreAllKept}
 use Rattle.warp_replica.specs.Answered.{TimelineFacts}
 use Rattle.warp_room.specs.Own.{EndsSending}
 use Rattle.warp_room.specs.Room.{RoomState}
+use Rattle.warp_room.specs.Rules.{may_sit}
 use Rattle.warp_room.specs.declared.own.Sent.{Sent}
 use Rattle.warp_room.specs.declared.own.Unsent.{Unsent}
 use Rattle.warp_room.specs.declared.own.Unsent.TheVariants as unsent
@@ -42,9 +43,9 @@ asked_tag clock asked = record { time = min (tick_of clock asked) (last_time wid
 abbrev pub IsInputOf : Program → ℕ → ℕ → Type 0
 IsInputOf P input origin = (one : ProgramInput) × (slice_get P.inputs input ≡ Some one) × (one.origin ≡ origin)
 
--- it may be sent with these rights, while records are taken
-abbrev pub MaySendIt : Common → Rights → ℕ → Type 0
-MaySendIt k r origin = (may_send_for r origin ≡ true) × (k.failing ≡ false)
+-- the client may send it with these rights, while records are taken, where it sits on the origin's seat or there is none
+abbrev pub MaySendIt : {T : Type 0} → Common → ClientId → Rights → ℕ → RoomState T → Type 0
+MaySendIt k who r origin s = (may_send_for r origin ≡ true) × (k.failing ≡ false) × (may_sit who origin s.rules ≡ true)
 
 -- how sending an input of the origin ends in the room: for a tag not before the one that is asked for, of so many inputs of the origin
 -- at a tick at most
@@ -54,28 +55,38 @@ SendsFor facts k origin sent ends s s' =
     EndsSending facts (min k.facts.most_inputs (top_of s.replica.program + 1))
     (record { origin = origin; input = sent.input; value = sent.value }) (asked_tag k.clock sent.asked) ends s s'
 
--- How an input ends that was sent with these rights. The room is asked where the program has the input, the rights allow its origin
--- and records are taken. Else nothing changes.
-abbrev pub SendsAs : {T : Type 0} → TimelineFacts T → Common → Rights → Sending → SendEnd → RoomState T → RoomState T → Type 0
-SendsAs facts k r sent end.NoInput s s' = (slice_get s.replica.program.inputs sent.input ≡ None) × (s' ≡ s)
-SendsAs facts k r sent end.NotAllowed s s' =
+-- How an input ends that a client sent with these rights. The room is asked where the program has the input, the rights allow its
+-- origin, records are taken, and it sits on the origin's seat, if that has one. Else nothing changes.
+abbrev pub SendsAs : {T : Type 0} → TimelineFacts T → Common → ClientId → Rights → Sending → SendEnd → RoomState T → RoomState T → Type 0
+SendsAs facts k who r sent end.NoInput s s' = (slice_get s.replica.program.inputs sent.input ≡ None) × (s' ≡ s)
+SendsAs facts k who r sent end.NotAllowed s s' =
     ((origin : ℕ) × IsInputOf s.replica.program sent.input origin × (may_send_for r origin ≡ false)) × (s' ≡ s)
-SendsAs facts k r sent end.NotDurable s s' =
+SendsAs facts k who r sent end.NotDurable s s' =
     ((origin : ℕ) × IsInputOf s.replica.program sent.input origin × (may_send_for r origin ≡ true) × (k.failing ≡ true))
     × (s' ≡ s)
-SendsAs facts k r sent (end.Sent at) s s' =
-    (origin : ℕ) × IsInputOf s.replica.program sent.input origin × MaySendIt k r origin
+SendsAs facts k who r sent end.NoSeat s s' =
+    ((origin : ℕ) × IsInputOf s.replica.program sent.input origin × (may_send_for r origin ≡ true) × (k.failing ≡ false)
+    × (may_sit who origin s.rules ≡ false)) × (s' ≡ s)
+SendsAs facts k who r sent (end.Sent at) s s' =
+    (origin : ℕ) × IsInputOf s.replica.program sent.input origin × MaySendIt k who r origin s
     × SendsFor facts k origin sent (Ok at) s s'
-SendsAs facts k r sent (end.Unsent why) s s' =
-    (origin : ℕ) × IsInputOf s.replica.program sent.input origin × MaySendIt k r origin
+SendsAs facts k who r sent (end.Unsent why) s s' =
+    (origin : ℕ) × IsInputOf s.replica.program sent.input origin × MaySendIt k who r origin s
     × SendsFor facts k origin sent (Err why) s s'
 
--- the answers to an input of an origin that the host does not keep, and to one more than a tick takes
+-- the answers to an input of an origin that the host does not keep, to one more than a tick takes, and to one further ahead than
+-- such are taken, and of who does not sit where it would have to
 abbrev pub refused_15 : List ℕ
 refused_15 = codes "refused 15\n"
 
 abbrev pub refused_18 : List ℕ
 refused_18 = codes "refused 18\n"
+
+abbrev pub refused_19 : List ℕ
+refused_19 = codes "refused 19\n"
+
+abbrev pub refused_20 : List ℕ
+refused_20 = codes "refused 20\n"
 
 -- the line that tells where an input was taken: its place in the log, and its tag
 abbrev pub sent_line : Sent → List ℕ
@@ -86,9 +97,11 @@ abbrev pub end_line : SendEnd → List ℕ
 end_line end.NoInput = reply_line (reply.Refused refusal.NoInput)
 end_line end.NotAllowed = refused_13
 end_line end.NotDurable = refused_14
+end_line end.NoSeat = refused_20
 end_line (end.Sent sent) = sent_line sent
 end_line (end.Unsent unsent.NotKept) = refused_15
 end_line (end.Unsent unsent.Crowded) = refused_18
+end_line (end.Unsent unsent.Early) = refused_19
 end_line (end.Unsent (unsent.Refused why)) = reply_line (reply.Refused why)
 
 -- of how long a log that tells: of all of it where the room was asked, else of none
@@ -96,6 +109,7 @@ abbrev pub end_len : SendEnd → ℕ → ℕ
 end_len end.NoInput len = 0
 end_len end.NotAllowed len = 0
 end_len end.NotDurable len = 0
+end_len end.NoSeat len = 0
 end_len (end.Sent sent) len = len
 end_len (end.Unsent why) len = len
 

@@ -3,7 +3,7 @@ use Rattle.std.specs.Prelude.{◌≡◌, ◌⊎◌, ◌≤◌, ℕ, Bool, false,
 use Rattle.warp_record.specs.declared.line.Line.{Line}
 use Rattle.warp_replica.specs.Answered.{TimelineFacts}
 use Rattle.warp_room.specs.Room.{RoomState}
-use Rattle.warp_room.specs.Steps.{Answered, Came, Executed, Handed, Heard, Left, RoomDoes, RoomStep, Said}
+use Rattle.warp_room.specs.Steps.{Answered, Came, Executed, Handed, Heard, Left, RoomDoes, RoomStep, Ruled, Said}
 use Rattle.warp_room.specs.declared.answers.AnsweredLine.{AnsweredLine}
 use Rattle.warp_hub.specs.declared.rights.Rights.{Rights}
 use Rattle.warp_hub.specs.declared.tokens.Entry.{Entry}
@@ -38,7 +38,7 @@ pub data Step : Type 0 where
   Renews : List Entry → Step
   Clocks : Option ClockTold → Step
 
--- execution, an answer to a line, or what the host says itself
+-- execution, an answer to a line, what the host says itself, or other rules
 abbrev pub IsWork : RoomStep → Type 0
 IsWork (Came who) = ⊥
 IsWork (Left who) = ⊥
@@ -47,6 +47,7 @@ IsWork Executed = Unit {0}
 IsWork (Answered one) = Unit {0}
 IsWork (Handed one) = ⊥
 IsWork (Said one answer) = Unit {0}
+IsWork (Ruled rules) = Unit {0}
 
 -- the clients' places change so, and what they have in common stays
 abbrev pub Places : (List ClientState → List ClientState → Type 0) → CrowdState → CrowdState → Type 0

@@ -6,7 +6,7 @@ ghost use Rattle.warp_clients.specs.Sayings.{IsAsked};
 use std::alloc::Global;
 use std::collections::VecDeque;
 use std::marker::Model;
-use warp_hub::{Sending, Word};
+use warp_hub::{SeatWord, Sending, Word};
 use warp_watch::{ClientId, Question};
 
 /// How many answers may wait until they may be told.
@@ -23,6 +23,8 @@ pub(crate) enum Asks {
     Keeps,
     /// That the room takes this input.
     Send(Sending),
+    /// This of who has the seats.
+    Seat(SeatWord),
 }
 
 /// What a word asks; `None` where it is answered without.
@@ -36,6 +38,7 @@ pub(crate) fn asks_of(word: &Word) -> Option<Asks>
         Word::Digest => Some(Asks::Digest),
         Word::Keeps => Some(Asks::Keeps),
         Word::Send(sent) => Some(Asks::Send(sent)),
+        Word::Seat(said) => Some(Asks::Seat(said)),
         Word::Release(number) => Some(Asks::Of(Question::Release(number))),
         Word::Counts(origin) => Some(Asks::Of(Question::Counts(origin))),
         Word::Reached(origin) => Some(Asks::Of(Question::Reached(origin))),
@@ -61,6 +64,15 @@ struct Counting {
     least: u32,
 }
 
+/// A client's word on seats.
+#[derive(Clone, Copy)]
+pub struct Seated {
+    /// Who said it.
+    pub who: ClientId,
+    /// The word.
+    pub said: SeatWord,
+}
+
 /// What was told to a client's question, of a log of this length, and waits until it may be told on.
 #[derive(Drop)]
 pub(crate) struct Waiting {
@@ -74,6 +86,7 @@ pub(crate) struct Waiting {
 pub(crate) struct Asking {
     asked: VecDeque<Asked>,
     counting: VecDeque<Counting>,
+    seating: VecDeque<Seated>,
     told: VecDeque<Waiting>,
 }
 
@@ -94,6 +107,7 @@ impl Asking {
         Asking {
             asked: VecDeque::new(alloc),
             counting: VecDeque::new(alloc),
+            seating: VecDeque::new(alloc),
             told: VecDeque::new(alloc),
         }
     }
@@ -110,6 +124,20 @@ impl Asking {
         ensures { self.new ≡ self.old }
     {
         self.counting.push_back(Counting { who, least }).is_ok()
+    }
+
+    /// A client said this of seats; whether there was memory.
+    pub(crate) fn want_seat(&mut self, who: ClientId, said: SeatWord) -> bool
+        ensures { self.new ≡ self.old }
+    {
+        self.seating.push_back(Seated { who, said }).is_ok()
+    }
+
+    /// What was said first of seats, and not taken up.
+    pub(crate) fn next_seated(&mut self) -> Option<Seated>
+        ensures { self.new ≡ self.old }
+    {
+        self.seating.pop_front()
     }
 
     /// Whether as much was told as may wait until it may be told on.

@@ -270,7 +270,7 @@ impl Client {
         ensures { (said : Saying) × IsSaying facts.now self.old.rights is_failing (piece_of fed.now) said
             × (self.new ≡ record self.old { slot = Some said }) }
     {
-        if !self.has_spoken && !self.is_web && is_strange(facts.form, fed) {
+        if !self.has_spoken && !self.is_web && is_strange(facts, fed) {
             self.has_ended = true;
         }
         self.has_spoken = true;

@@ -322,6 +322,7 @@ impl<T: Timeline> Clients<T> {
             Asks::Digest => self.want_digest(who),
             Asks::Keeps => self.tell_keeps(who),
             Asks::Send(sent) => self.send_word(who, &sent),
+            Asks::Seat(said) => self.want_seat(who, said),
         }
     }
 

@@ -17,6 +17,15 @@ const LATE: usize = 16;
 /// The number of the refusal of another payload of a kept origin's name.
 const DIFFERS: usize = 17;
 
+/// The number of the refusal of an event that is further ahead than such are taken.
+const EARLY: usize = 19;
+
+/// The number of the refusal of who does not sit where it would have to.
+const NO_SEAT: usize = 20;
+
+/// The number of the refusal of what would break an announcement.
+const BREAKS: usize = 21;
+
 /// What was counted since the clients were made.
 #[derive(Clone, Copy, Debug)]
 pub struct Counts {
@@ -87,6 +96,10 @@ impl Counts {
             Outcome::Kept => self.refused(KEPT),
             Outcome::Late => self.refused(LATE),
             Outcome::Differs => self.refused(DIFFERS),
+            Outcome::Early => self.refused(EARLY),
+            Outcome::NoSeat => self.refused(NO_SEAT),
+            Outcome::Breaks => self.refused(BREAKS),
+            Outcome::Unjudged => self.refused_by(Refusal::NoMemory),
         }
     }
 

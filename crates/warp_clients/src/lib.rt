@@ -19,6 +19,7 @@ mod own;
 mod places;
 mod refusals;
 mod saying;
+mod seating;
 mod sending;
 mod telling;
 #[cfg(test)]
@@ -28,12 +29,15 @@ mod tokens;
 mod watching;
 mod writing;
 
+pub use asking::Seated;
 pub use clients::{Clients, Refused, Visits};
 pub use counts::Counts;
 pub use law::what_is_told;
 pub use refusals::{MOST_REFUSALS, Refusals};
 pub use sending::ClockTold;
-pub use warp_room::{Digested, Input, Keeping, Progress, Sent, Unsent, Untold, Worked};
+pub use warp_room::{
+    Digested, Input, Keeping, Progress, Returned, Seating, Seats, Sent, Unsent, Untold, Worked,
+};
 pub use warp_watch::ClientId;
 pub use warp_web::{Answers, Gone, Kind};
 pub use watching::Watched;

@@ -1,12 +1,13 @@
 //! What a line is read to be.
-ghost use Rattle.std.specs.Prelude.{◌≡◌};
+ghost use Rattle.std.specs.Prelude.{◌≡◌, IsTrue, false, true};
 ghost use Rattle.warp_record.specs.Lines.{piece_of};
-ghost use Rattle.warp_clients.specs.Sayings.{IsSaying, IsTextSaying, allowed_saying, first_rights, given_of, line_saying};
+ghost use Rattle.warp_clients.specs.Sayings.{IsSaying, IsTextSaying, allowed_saying, first_rights, given_of, known_saying, line_saying};
 ghost use Rattle.warp_clients.specs.Sayings.{none_saying, word_saying};
+ghost use Rattle.warp_hub.specs.Words.{IsWord, is_of_seats, word_spelling};
+ghost use Rattle.warp_hub.specs.declared.words.Word.{Word};
 
-use warp_hub::{Facts, Rights, Word, is_said, read_token, read_word};
+use warp_hub::{Facts, Rights, Word, is_of_seats, is_said, read_token, read_word};
 use warp_record::{Fed, Line, Look, Refusal, read_line};
-use warp_tag::Form;
 
 /// What a client said.
 #[derive(Clone, Copy)]
@@ -90,6 +91,16 @@ fn word_saying(rights: &Rights, word: &Word) -> Saying
     }
 }
 
+/// What a word is to this host: one on seats is none where it has no seats.
+fn known_saying(facts: &Facts, rights: &Rights, word: &Word) -> Saying
+    ensures { result ≡ known_saying facts.now rights.now word.now }
+{
+    if is_of_seats(word) && !facts.has_seats {
+        return none_saying(rights);
+    }
+    word_saying(rights, word)
+}
+
 /// What is neither a line nor a token nor a word.
 fn none_saying(rights: &Rights) -> Saying
     ensures { result ≡ none_saying rights.now }
@@ -112,7 +123,7 @@ fn read_text(facts: &Facts, rights: &Rights, is_failing: bool, text: &[u8]) -> S
         return Saying::Token(rights_given(facts, token));
     }
     match read_word(text) {
-        Some(word) => word_saying(rights, &word),
+        Some(word) => known_saying(facts, rights, &word),
         None => none_saying(rights),
     }
 }
@@ -128,11 +139,25 @@ pub(crate) fn read_saying(facts: &Facts, rights: &Rights, is_failing: bool, fed:
     }
 }
 
-/// Whether a line is no line of a session, no token and no word.
-pub(crate) fn is_strange(form: Form, fed: &Fed) -> bool {
+/// Whether a line is no line of a session, no token and no word of this host.
+pub(crate) fn is_strange(facts: &Facts, fed: &Fed) -> bool {
     match fed {
-        Fed::Text(text) => !is_said(form, text),
+        Fed::Text(text) => !is_said(facts.form, text) || is_unknown_here(facts, text),
         Fed::TooLong => true,
         Fed::Torn => false,
+    }
+}
+
+/// Whether a line is a word on seats, where there are none.
+fn is_unknown_here(facts: &Facts, text: &[u8]) -> bool
+    ensures none { IsTrue result → facts.now.has_seats ≡ false }
+    ensures word { IsTrue result → (said : Word) × IsWord said × (text.now ≡ word_spelling said) × (is_of_seats said ≡ true) }
+{
+    if facts.has_seats {
+        return false;
+    }
+    match read_word(text) {
+        Some(word) => is_of_seats(&word),
+        None => false,
     }
 }

@@ -32,6 +32,12 @@ const NOT_KEPT: &[u8] = b"refused 15\n";
 /// The answer to an input more than its tick takes.
 const CROWDED: &[u8] = b"refused 18\n";
 
+/// The answer to who does not sit where it would have to.
+pub(crate) const NO_SEAT: &[u8] = b"refused 20\n";
+
+/// The answer to an event that is further ahead than such are taken.
+pub(crate) const EARLY: &[u8] = b"refused 19\n";
+
 /// What a host's clock says.
 #[derive(Clone, Copy, Debug, PartialEq, Eq)]
 pub struct ClockTold {
@@ -52,6 +58,8 @@ pub(crate) enum SendEnd {
     NotAllowed,
     /// The journal can't be written.
     NotDurable,
+    /// The origin has a seat, on which the client does not sit.
+    NoSeat,
     /// It was taken.
     Sent(Sent),
     /// It was not taken.
@@ -74,6 +82,7 @@ impl SendEnd {
             SendEnd::NoInput => 0,
             SendEnd::NotAllowed => 0,
             SendEnd::NotDurable => 0,
+            SendEnd::NoSeat => 0,
             SendEnd::Sent(_) => len,
             SendEnd::Unsent(_) => len,
         }
@@ -163,9 +172,11 @@ fn spell_end(text: &mut Vec<u8>, end: SendEnd) -> bool
         SendEnd::NoInput => spell_reply(text, &Reply::Refused(Refusal::NoInput)),
         SendEnd::NotAllowed => spell(text, NOT_ALLOWED),
         SendEnd::NotDurable => spell(text, NOT_DURABLE),
+        SendEnd::NoSeat => spell(text, NO_SEAT),
         SendEnd::Sent(sent) => spell_sent(text, sent),
         SendEnd::Unsent(Unsent::NotKept) => spell(text, NOT_KEPT),
         SendEnd::Unsent(Unsent::Crowded) => spell(text, CROWDED),
+        SendEnd::Unsent(Unsent::Early) => spell(text, EARLY),
         SendEnd::Unsent(Unsent::Refused(refusal)) => spell_reply(text, &Reply::Refused(refusal)),
     }
 }
@@ -240,7 +251,7 @@ impl Places {
 
 impl Crowd {
     /// What the client may send; `None` where it is not there.
-    fn rights(&self, who: ClientId) -> Option<Rights>
+    pub(crate) fn rights(&self, who: ClientId) -> Option<Rights>
         ensures { IfSome result (λ rights. IsThere who (λ c. c.rights ≡ rights) self.now.clients) }
     {
         self.places.rights(who)
@@ -319,35 +330,35 @@ impl<T: Timeline> Clients<T> {
     /// Sends an input of a client, with the rights that it has, and tells it how that ended; whether there was memory to tell.
     fn send_and_tell(&mut self, who: ClientId, sent: &Sending) -> bool
         ensures sent { (self.new.room ≡ self.old.room) ⊎ IsThere who (λ c. (end : SendEnd) ×
-            SendsAs (facts_of T.settled T.refused T.floor T.SLACK) self.old.crowd.common c.rights sent.now end
+            SendsAs (facts_of T.settled T.refused T.floor T.SLACK) self.old.crowd.common who c.rights sent.now end
             self.old.room self.new.room) self.old.crowd.clients }
         ensures run { SomeRun (facts_of T.settled T.refused T.floor T.SLACK) self.old self.new }
     {
         let Some(rights) = self.crowd.rights(who) else {
             return true;
         };
-        let told = self.send_told(&rights, sent);
+        let told = self.send_told(who, &rights, sent);
         self.tell_sent(who, told)
     }
 
-    /// Sends an input for who has these rights: how it ended, and of how long a log that tells.
-    fn send_told(&mut self, rights: &Rights, sent: &Sending) -> SendTold
-        ensures sent { SendsAs (facts_of T.settled T.refused T.floor T.SLACK) self.old.crowd.common rights.now sent.now result.end
+    /// Sends an input for this client, which has these rights: how it ended, and of how long a log that tells.
+    fn send_told(&mut self, who: ClientId, rights: &Rights, sent: &Sending) -> SendTold
+        ensures sent { SendsAs (facts_of T.settled T.refused T.floor T.SLACK) self.old.crowd.common who rights.now sent.now result.end
             self.old.room self.new.room }
         ensures len { result.len ≡ end_len result.end (length self.new.room.replica.records) }
         ensures crowd { self.new.crowd ≡ self.old.crowd }
         ensures run { SomeRun (facts_of T.settled T.refused T.floor T.SLACK) self.old self.new }
     {
-        let end = self.send_as(rights, sent);
+        let end = self.send_as(who, rights, sent);
         SendTold {
             end,
             len: end.len_told(self.room.len()),
         }
     }
 
-    /// Sends an input for who has these rights: how it ended.
-    fn send_as(&mut self, rights: &Rights, sent: &Sending) -> SendEnd
-        ensures sent { SendsAs (facts_of T.settled T.refused T.floor T.SLACK) self.old.crowd.common rights.now sent.now result
+    /// Sends an input for this client, which has these rights: how it ended.
+    fn send_as(&mut self, who: ClientId, rights: &Rights, sent: &Sending) -> SendEnd
+        ensures sent { SendsAs (facts_of T.settled T.refused T.floor T.SLACK) self.old.crowd.common who rights.now sent.now result
             self.old.room self.new.room }
         ensures crowd { self.new.crowd ≡ self.old.crowd }
         ensures run { SomeRun (facts_of T.settled T.refused T.floor T.SLACK) self.old self.new }
@@ -360,6 +371,9 @@ impl<T: Timeline> Clients<T> {
         }
         if self.crowd.is_failing() {
             return SendEnd::NotDurable;
+        }
+        if !self.room.may_send(who, origin) {
+            return SendEnd::NoSeat;
         }
         match self.send_for(origin, sent) {
             Ok(at) => SendEnd::Sent(at),

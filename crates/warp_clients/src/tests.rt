@@ -108,6 +108,7 @@ fn clients(
         names: Vec::from_slice(alloc, b"names {}")?,
         most_clients: 8,
         most_inputs: 2,
+        has_seats: false,
         tokens,
     };
     let mut room = Room::new(alloc, replica, 256, 1_024);

@@ -5,11 +5,11 @@ ghost use Rattle.warp_room.specs.Gate.{outcome_line};
 ghost use Rattle.warp_clients.specs.Sayings.{IsOwn, refused_13};
 
 use crate::saying::Saying;
-use crate::sending::{ClockTold, spell_clock};
+use crate::sending::{ClockTold, EARLY, NO_SEAT, spell_clock};
 use itoa::Buffer;
 use std::alloc::AllocError;
 use warp_hub::{Facts, MOST_ORIGINS, Rights, Word};
-use warp_record::{REPLY_ROOM, Reply, write_reply_line};
+use warp_record::{REPLY_ROOM, Refusal, Reply, write_reply_line};
 use warp_room::Outcome;
 
 /// The answer to what may not be sent.
@@ -23,6 +23,9 @@ const KEPT: &[u8] = b"refused 15\n";
 
 /// The answer to a record of a kept origin's name that is closed.
 const LATE: &[u8] = b"refused 16\n";
+
+/// The answer to a record that would break an announcement.
+const BREAKS: &[u8] = b"refused 21\n";
 
 /// The answer to another payload of a kept origin's name.
 const DIFFERS: &[u8] = b"refused 17\n";
@@ -48,6 +51,10 @@ pub(crate) fn spell_outcome(text: &mut Vec<u8>, outcome: &Outcome) -> bool
         Outcome::Kept => spell(text, KEPT),
         Outcome::Late => spell(text, LATE),
         Outcome::Differs => spell(text, DIFFERS),
+        Outcome::Early => spell(text, EARLY),
+        Outcome::NoSeat => spell(text, NO_SEAT),
+        Outcome::Breaks => spell(text, BREAKS),
+        Outcome::Unjudged => spell_reply(text, &Reply::Refused(Refusal::NoMemory)),
     }
 }
 

@@ -42,6 +42,7 @@ pub(crate) fn is_watch(word: &Word) -> bool
         | Word::Keeps
         | Word::Clock
         | Word::Send(_)
+        | Word::Seat(_)
         | Word::Release(_)
         | Word::Counts(_)
         | Word::Reached(_) => false,
@@ -58,6 +59,7 @@ pub(crate) struct Subjects {
     horizon: bool,
     breach: bool,
     steps: bool,
+    seats: bool,
 }
 
 /// Nothing is watched.
@@ -69,6 +71,7 @@ pub(crate) const NO_SUBJECTS: Subjects = Subjects {
     horizon: false,
     breach: false,
     steps: false,
+    seats: false,
 };
 
 impl Subjects {
@@ -82,6 +85,7 @@ impl Subjects {
             Subject::Horizon => self.horizon = is_watched,
             Subject::Breach => self.breach = is_watched,
             Subject::Steps => self.steps = is_watched,
+            Subject::Seats => self.seats = is_watched,
         }
     }
 
@@ -99,6 +103,7 @@ impl Subjects {
             | Word::Keeps
             | Word::Clock
             | Word::Send(_)
+            | Word::Seat(_)
             | Word::Release(_)
             | Word::Counts(_)
             | Word::Reached(_) => {}
@@ -107,7 +112,7 @@ impl Subjects {
 
     /// How many things are watched.
     fn count(&self) -> u8
-        ensures { result ≤ 7 }
+        ensures { result ≤ 8 }
     {
         u8::from(self.log)
             + u8::from(self.released)
@@ -116,6 +121,7 @@ impl Subjects {
             + u8::from(self.horizon)
             + u8::from(self.breach)
             + u8::from(self.steps)
+            + u8::from(self.seats)
     }
 }
 
@@ -129,6 +135,7 @@ fn subject_of(watch: Watch) -> Subject {
         Watch::Horizon => Subject::Horizon,
         Watch::Breach => Subject::Breach,
         Watch::Steps => Subject::Steps,
+        Watch::Seats => Subject::Seats,
     }
 }
 
@@ -136,7 +143,7 @@ impl Client {
     /// What the word says is so of what it watches: how many things it watches then.
     fn watch(&mut self, word: &Word) -> u8
         ensures same { self.new ≡ self.old }
-        ensures few { result ≤ 7 }
+        ensures few { result ≤ 8 }
     {
         self.watches.note(word);
         self.watches.count()
@@ -147,7 +154,7 @@ impl Places {
     /// What the word says is so of what the client watches: how many things it watches then; none where it is not there.
     fn watch(&mut self, who: ClientId, word: &Word) -> u8
         ensures same { self.new ≡ self.old }
-        ensures few { result ≤ 7 }
+        ensures few { result ≤ 8 }
     {
         let at = who.key as usize;
         if at >= self.clients.len() || !self.clients[at].is_me(who) {
@@ -159,7 +166,7 @@ impl Places {
 
 /// Puts the line that tells how many things a client watches in the place of what is there; whether there was memory.
 fn spell_watching(text: &mut Vec<u8>, count: u8) -> bool
-    requires { count ≤ 7 }
+    requires { count ≤ 8 }
     ensures { IsTrue result → IsWatching text.new.items }
 {
     text.clear();
@@ -188,7 +195,7 @@ impl Crowd {
     /// memory.
     fn note_watch(&mut self, who: ClientId, word: &Word) -> Option<u8>
         ensures same { self.new ≡ self.old }
-        ensures few { IfSome result (λ count. count ≤ 7) }
+        ensures few { IfSome result (λ count. count ≤ 8) }
     {
         let watched = Watched { who, word: *word };
         if self.watched.push_back(watched).is_err() {
@@ -199,7 +206,7 @@ impl Crowd {
 
     /// A client's word that began or ended a watch is answered by how many things it watches now.
     fn speak_watching(&mut self, who: ClientId, said: &Saying, count: u8)
-        requires few { count ≤ 7 }
+        requires few { count ≤ 8 }
         requires next { IsThere who (IsNext said.now) self.old.clients }
         requires own { (text : List ℕ) → IsWatching text →
             IsOwn self.old.common.facts self.old.common.clock said.now text }

@@ -80,6 +80,8 @@ pub struct Durable {
     has_failed: AtomicBool,
     // From how many beginnings on the log was asked for.
     beginnings: AtomicU32,
+    // The number of the text of seats that was kept last.
+    seats: AtomicU64,
 }
 
 impl Durable {
@@ -102,6 +104,7 @@ impl Durable {
             is_failing: AtomicBool::new(false),
             has_failed: AtomicBool::new(false),
             beginnings: AtomicU32::new(0),
+            seats: AtomicU64::new(0),
         }
     }
 
@@ -237,6 +240,16 @@ impl Durable {
     /// Whether the journal could not be written until the end.
     pub fn has_failed(&self) -> bool {
         self.has_failed.load(Ordering::SeqCst)
+    }
+
+    /// The text of seats with this number is kept.
+    pub(crate) fn note_seats(&self, number: u64) {
+        self.seats.store(number, Ordering::SeqCst);
+    }
+
+    /// The number of the text of seats that was kept last; 0 where none was.
+    pub fn seats(&self) -> u64 {
+        self.seats.load(Ordering::SeqCst)
     }
 
     /// Asks for the log from its beginning, for the so-manieth time.

@@ -2,6 +2,7 @@
 
 use crate::journal_faults::{FileFault, OpenFault};
 use crate::journal_file::JournalFile;
+use crate::seats_file::write_seats;
 use std::alloc::{AllocError, Global};
 use std::fs::{self, File, Files, Metadata, OpenOptions, Permissions, TryLockError};
 use std::io::{self, ErrorKind, Read, Seek, SeekFrom, Write};
@@ -227,7 +228,7 @@ pub(crate) fn open_left<F: Files<File = File>>(
 }
 
 /// Removes the fresh file of this name, if there is one.
-fn remove<F: Files<File = File>>(files: &F, path: &str) -> Result<(), FileFault> {
+pub(crate) fn remove<F: Files<File = File>>(files: &F, path: &str) -> Result<(), FileFault> {
     if let Ok(about) = fs::symlink_metadata(files, path) {
         if about.is_dir() {
             return Err(FileFault::NoFresh);
@@ -402,6 +403,15 @@ pub trait FreshFiles {
 
     /// Looks whether what stands under the journal's name is its file, of just so many bytes.
     fn look_at(&self, place: &JournalPlace, len: u64) -> Result<(), FileFault>;
+
+    /// Keeps this text of seats beside the journal, on the disk where that is wanted.
+    fn keep_seats(
+        &self,
+        alloc: Global,
+        place: &JournalPlace,
+        text: &[u8],
+        syncs: bool,
+    ) -> Result<(), FileFault>;
 }
 
 impl<X: Files<File = File>> FreshFiles for X {
@@ -429,5 +439,15 @@ impl<X: Files<File = File>> FreshFiles for X {
 
     fn look_at(&self, place: &JournalPlace, len: u64) -> Result<(), FileFault> {
         look(self, place, len)
+    }
+
+    fn keep_seats(
+        &self,
+        alloc: Global,
+        place: &JournalPlace,
+        text: &[u8],
+        syncs: bool,
+    ) -> Result<(), FileFault> {
+        write_seats(self, alloc, place.path.as_str(), text, syncs)
     }
 }

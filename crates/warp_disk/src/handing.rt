@@ -4,6 +4,7 @@ ghost use Rattle.rtrb.specs.Ring.{known_free, received, sent};
 ghost use Rattle.warp_disk.specs.Handing.{Begins, Hands, IsWanted, StaysHanded, TakesHanded, TakesNext, is_all_handed, since};
 
 use crate::durable::Durable;
+use crate::seats_file::SeatsText;
 use rtrb::{Consumer, Producer};
 use std::alloc::Global;
 use warp_journal::{Disk, Failed, Keeper};
@@ -46,6 +47,9 @@ pub struct Handing {
     count: u32,
     // How many times the log was handed from its beginning, because that was asked for.
     beginnings: u32,
+    // Where texts of seats are handed; none where there is no journal. And the number of the last one.
+    seats: Option<Producer<SeatsText>>,
+    seats_number: u64,
 }
 
 /// Hands these records by the ring, in their order, while there is room: how many of them.
@@ -110,7 +114,12 @@ pub(crate) fn take_handed<D: Disk>(
 
 impl Handing {
     /// Of the log so many records need not be handed; without a ring none.
-    pub(crate) fn new(alloc: Global, ring: Option<Producer<Handed>>, count: u32) -> Handing
+    pub(crate) fn new(
+        alloc: Global,
+        ring: Option<Producer<Handed>>,
+        seats: Option<Producer<SeatsText>>,
+        count: u32,
+    ) -> Handing
         ensures { (result.ring ≡ ring) × (result.count ≡ count) × (result.beginnings ≡ 0) }
     {
         Handing {
@@ -118,6 +127,8 @@ impl Handing {
             batch: Vec::new(alloc),
             count,
             beginnings: 0,
+            seats,
+            seats_number: 0,
         }
     }
 
@@ -170,6 +181,28 @@ impl Handing {
         let count = hand_all(ring, &self.batch, self.beginnings);
         self.count = before.saturating_add(u32::try_from(count).unwrap_or(u32::MAX));
         if count > 0 {
+            durable.wake_scribe();
+        }
+    }
+
+    /// The number of the text of seats that was handed last, where there is room for another; `None` where there is not.
+    pub fn wants_seats(&mut self) -> Option<u64> {
+        let Some(ring) = &mut self.seats else {
+            return None;
+        };
+        if ring.slots() == 0 {
+            return None;
+        }
+        Some(self.seats_number)
+    }
+
+    /// Hands the text of seats with this number, for which there is room.
+    pub fn hand_seats(&mut self, number: u64, text: Vec<u8>, durable: &Durable) {
+        let Some(ring) = &mut self.seats else {
+            return;
+        };
+        if ring.push(SeatsText { number, text }).is_ok() {
+            self.seats_number = number;
             durable.wake_scribe();
         }
     }

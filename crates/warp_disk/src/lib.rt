@@ -11,6 +11,7 @@ mod journal_file;
 mod operator;
 mod renewal;
 mod scribe;
+mod seats_file;
 mod syncing;
 mod tallies;
 mod teller;
@@ -25,6 +26,7 @@ pub use journal_file::{
     FirstLines, JournalFile, OpenJournal, SyncWhen, lock_journal, open_journal, words_of,
 };
 pub use operator::tell_slow_write;
+pub use seats_file::read_seats;
 pub use teller::{Teller, Telling};
 pub use writing::{
     NoThread, Shared, Writers, durable_of, end_writing, make_writers, start_writing, started,

@@ -47,6 +47,18 @@ pub(crate) fn tell_journal_renewed<X: Eprint>(rt: &X, count: u32) {
     let _ = eprintln!(rt; "journal: written anew, with {count} record{s}");
 }
 
+/// Tells that seats can't be kept, and why.
+pub(crate) fn tell_seats_unkept<X: Eprint>(rt: &X, fault: FileFault) {
+    let _ = match fault {
+        FileFault::System(error) => eprintln!(rt;
+            "seats: FILE.seats can't be written: {error}; who wants a seat waits until it is, which is tried each second"
+        ),
+        _ => rt.eprintln(
+            "seats: FILE.seats can't be written; who wants a seat waits until it is, which is tried each second",
+        ),
+    };
+}
+
 /// Tells that a write takes long, while so many records wait for it.
 pub fn tell_slow_write<X: Eprint>(rt: &X, waiting: u32) {
     let (s, are) = plural(u64::from(waiting));

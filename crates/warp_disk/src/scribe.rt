@@ -10,6 +10,7 @@ use crate::handing::{Handed, RING_ROOM, next_since, take_handed};
 use crate::journal_faults::FileFault;
 use crate::journal_file::{JournalFile, SyncWhen};
 use crate::operator;
+use crate::seats_file::{SEATS_ROOM, SeatsText};
 use crate::syncing::{SyncDone, Syncs};
 use crate::tallies::{Written, end_batch, write};
 use crate::teller::Teller;
@@ -35,6 +36,11 @@ pub(crate) struct Scribe<'a> {
     pub(crate) place: JournalPlace,
     pub(crate) when: SyncWhen,
     pub(crate) handed: Consumer<Handed>,
+    pub(crate) seats: Consumer<SeatsText>,
+    /// The text of seats that is to be kept, where that is not done.
+    pub(crate) unkept: Option<SeatsText>,
+    /// That it could not be kept was told.
+    pub(crate) is_unkept_told: bool,
     pub(crate) syncs: Syncs,
     pub(crate) durable: &'a Durable,
     pub(crate) bells: &'a Bells,
@@ -155,8 +161,44 @@ impl<'a> Scribe<'a> {
         self.durable.note_waiting(waits.or(self.behind_since));
         if now.saturating_sub(self.looked) >= Duration::from_millis(LOOK) {
             self.look(rt, now)?;
+            self.keep_seats(rt);
         }
         Ok(())
+    }
+
+    /// Takes the newest text of seats that was handed; whether there was one.
+    fn take_seats(&mut self) -> bool {
+        let mut is_new = false;
+        for _ in 0..SEATS_ROOM {
+            let Ok(text) = self.seats.pop() else {
+                break;
+            };
+            self.unkept = Some(text);
+            is_new = true;
+        }
+        is_new
+    }
+
+    /// Keeps the text of seats that is to be kept, if one is. Where it can't be that is told once, and it is tried again.
+    fn keep_seats<X: FreshFiles + Wait>(&mut self, rt: &X) {
+        let Some(seats) = self.unkept.take() else {
+            return;
+        };
+        let syncs = self.when != SyncWhen::Never;
+        match rt.keep_seats(self.alloc, &self.place, &seats.text, syncs) {
+            Ok(()) => {
+                self.is_unkept_told = false;
+                self.durable.note_seats(seats.number);
+                self.bells.wake_worker();
+            }
+            Err(fault) => {
+                if !self.is_unkept_told {
+                    operator::tell_seats_unkept(&self.teller.by(rt), fault);
+                }
+                self.is_unkept_told = true;
+                self.unkept = Some(seats);
+            }
+        }
     }
 
     /// Writes what was handed, and has it brought to the disk where that is due; whether there was anything.
@@ -174,6 +216,9 @@ impl<'a> Scribe<'a> {
             self.behind_since = Some(self.behind_since.unwrap_or(now));
         }
         self.write(taken > 0, second, now)?;
+        if self.take_seats() {
+            self.keep_seats(rt);
+        }
         self.look_after(rt, now)?;
         Ok(synced || taken > 0)
     }
@@ -197,7 +242,7 @@ impl<'a> Scribe<'a> {
     /// Sleeps, unless something was handed.
     fn rest<X: Wait + Clock>(&mut self, rt: &X) {
         self.durable.scribe_sleeps();
-        if !self.handed.is_empty() || self.syncs.is_answered() {
+        if !self.handed.is_empty() || !self.seats.is_empty() || self.syncs.is_answered() {
             self.durable.scribe_wakes();
             return;
         }

@@ -9,6 +9,7 @@ use crate::fresh_file::FreshFiles;
 use crate::handing::{Handing, RING_ROOM};
 use crate::journal_file::OpenJournal;
 use crate::scribe::Scribe;
+use crate::seats_file::SEATS_ROOM;
 use crate::syncing::{SYNCS_ROOM, Syncer, Syncs};
 use crate::teller::Teller;
 use rtrb::RingBuffer;
@@ -64,7 +65,7 @@ pub fn make_writers<'a>(
         teller,
     } = shared;
     let Some(journal) = journal else {
-        return Ok((Handing::new(alloc, None, 0), None));
+        return Ok((Handing::new(alloc, None, None, 0), None));
     };
     let OpenJournal {
         keeper,
@@ -76,7 +77,8 @@ pub fn make_writers<'a>(
     let (ring, handed) = RingBuffer::new(alloc, RING_ROOM)?;
     let (asking, jobs) = RingBuffer::new(alloc, SYNCS_ROOM)?;
     let (ending, done) = RingBuffer::new(alloc, SYNCS_ROOM)?;
-    let handing = Handing::new(alloc, Some(ring), keeper.len());
+    let (seats_ring, seats) = RingBuffer::new(alloc, SEATS_ROOM)?;
+    let handing = Handing::new(alloc, Some(ring), Some(seats_ring), keeper.len());
     let syncer = Syncer {
         disk: handle,
         jobs,
@@ -89,6 +91,9 @@ pub fn make_writers<'a>(
         place,
         when,
         handed,
+        seats,
+        unkept: None,
+        is_unkept_told: false,
         syncs: Syncs::new(asking, done),
         durable,
         bells,

@@ -88,6 +88,14 @@ pub trait Decides<P> {
         list: &mut Vec<Record>,
     ) -> Result<(), OutOfMemory>;
 
+    /// Appends the text of the seats as they are to be kept now, where that is another than the one with this number: the
+    /// number that it has, which grows. `None` where there are none, or they are to be kept nowhere; `Err` says that there was
+    /// no memory.
+    fn seats_since(&self, number: u64, text: &mut Vec<u8>) -> Result<Option<u64>, OutOfMemory>;
+
+    /// The text of the seats with this number is kept.
+    fn seats_kept(&mut self, number: u64, now: u64);
+
     /// Hears lines of clients, has the room work for a while, and hands on what may be told. Whether there is more to do at
     /// once.
     fn turn(&mut self, now: u64) -> bool;

@@ -47,6 +47,9 @@ pub enum HostFault {
     /// The log is one over which this origin can't be kept.
     #[error("origin {0} can't be kept")]
     NotKept(u32),
+    /// The file of seats has others than are offered.
+    #[error("the file of seats has others")]
+    OtherSeats,
 }
 
 impl From<AllocError> for HostFault {
@@ -88,11 +91,28 @@ fn or_told<X: Eprint, T: Drop>(rt: &X, what: &str, given: io::Result<T>) -> Resu
     }
 }
 
-/// Secret keys for a host that begins now, and this moment in microseconds. Where the system gives none, that is told.
-pub fn begin<X: Clock + RandomSource + Eprint>(rt: &X) -> Result<(RandomState, u64), HostFault> {
+/// What a host begins with that nobody else knows, and when.
+#[derive(Drop)]
+pub struct Begin {
+    /// Secret keys, for the names of headers.
+    pub keys: RandomState,
+    /// A secret number, from which secrets of seats are made.
+    pub secret: [u8; 32],
+    /// This moment, in microseconds.
+    pub now: u64,
+}
+
+/// What a host that begins now has of the system. Where that gives none, it is told.
+pub fn begin<X: Clock + RandomSource + Eprint>(rt: &X) -> Result<Begin, HostFault> {
     let now = or_told(rt, "time", rt.monotonic())?;
     let keys = or_told(rt, "random numbers", RandomState::new(rt))?;
-    Ok((keys, micros_of(now)))
+    let mut secret = [0; 32];
+    or_told(rt, "random numbers", rt.fill_bytes(&mut secret))?;
+    Ok(Begin {
+        keys,
+        secret,
+        now: micros_of(now),
+    })
 }
 
 /// Starts the lookup in a thread of its own, where there is one.

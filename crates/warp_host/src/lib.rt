@@ -20,7 +20,7 @@ mod token_file;
 mod worker;
 
 pub use descriptors::clients_within;
-pub use hosting::{HostFault, System, begin, host};
+pub use hosting::{Begin, HostFault, System, begin, host};
 pub use named_file::{NO_FILE, is_no_file, tell_file, tell_line, tell_of_file};
 pub use options::{ChannelUse, DEFAULT_CLIENTS, MOST_CLIENTS, MOST_PEERS, Outside, may_listen};
 pub use token_file::{TokenFault, TokenFiles, token_text};

@@ -178,6 +178,18 @@ impl Worker {
         self.tick(rt, machine, shared);
         self.act(rt, machine, shared.teller);
         hand(&mut self.handing, machine, shared.durable);
+        self.hand_seats(machine, shared.durable);
+    }
+
+    /// Hands the text of seats to the journal's thread, where that is another than the last one.
+    fn hand_seats<P, M: Decides<P>>(&mut self, machine: &M, durable: &Durable) {
+        let Some(last) = self.handing.wants_seats() else {
+            return;
+        };
+        let mut text = Vec::new(self.alloc);
+        if let Ok(Some(number)) = machine.seats_since(last, &mut text) {
+            self.handing.hand_seats(number, text, durable);
+        }
     }
 
     /// Has the machine work. What it made of what came is told at the time behind that, which is how long a line took.
@@ -352,6 +364,7 @@ impl Worker {
     /// Tells of how long a log may be told, and whether the journal can be written.
     fn look_at_journal<P, M: Decides<P>>(&mut self, machine: &mut M, durable: &Durable) {
         machine.told_up_to(durable.limit(), durable.is_failing(), self.now);
+        machine.seats_kept(durable.seats(), self.now);
         if durable.has_failed() {
             machine.journal_failed();
         }

@@ -1,3 +1,4 @@
+mod KeepsLines
 mod WordForms
 pub mod OneLog
 pub mod TokenLines

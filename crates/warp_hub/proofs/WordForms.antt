@@ -1,12 +1,16 @@
 -- Which words have two, three or four words, and what these are; and how an input is spelled that is sent.
-use Rattle.std.proofs.Common.{◌≡◌, ℕ, ℤ, ◌<◌, ◌≤◌, true, List, [], ◌∷◌, Option, Some, None, length, get_or, drop, codes, decimal, refl, sym, ap, ◌∙◌, arith}
+use Rattle.std.proofs.Common.{◌≡◌, inl, inr, ltb, subst, ℕ, ℤ, ◌<◌, ◌≤◌, true, List, [], ◌∷◌, Option, Some, None, length, get_or, drop, codes, decimal, refl, sym, ap, ◌∙◌, arith}
 use Rattle.std.specs.Fmt.{signed_decimal}
 use Rattle.std.specs.List.{slice_split}
+use Rattle.std.proofs.lemmas.Bool.{lt-ltb}
 use Rattle.std.proofs.lemmas.Fmt.{decimal_injective}
+use Rattle.std.proofs.lemmas.List.Sums.{list_all-from_AllPass}
 use Rattle.warp_record.specs.Number.{is_space}
 use Rattle.warp_record.proofs.PlainWords.{are_plain, is_plain, plain_decimal, plain_signed, words_of_text}
 use Rattle.warp_tag.specs.Limits.{last_number}
-use Rattle.warp_hub.specs.Words.{IsEventOf, IsRange, IsSending, IsWatch, IsWord, asked_words, subject_name, watch_words, word_spelling, word_words}
+use Rattle.warp_hub.specs.Words.{IsEventOf, IsRange, IsSecret, IsSecretDigit, IsSending, IsWatch, IsWord, asked_words, seat_words, subject_name, watch_words, word_spelling, word_words}
+use Rattle.warp_hub.specs.declared.words.SeatWord.{SeatWord}
+use Rattle.warp_hub.specs.declared.words.SeatWord.TheVariants as seat
 use Rattle.warp_hub.specs.declared.words.Subject.{Subject}
 use Rattle.warp_hub.specs.declared.words.Subject.TheVariants as subject
 use Rattle.warp_hub.specs.declared.words.Watch.{Watch}
@@ -32,6 +36,8 @@ pub data Two (key text : List ℕ) : Type 0 where
   release : (number : ℕ) → number ≤ last_number → key ≡ codes "release" → text ≡ decimal number → Two key text
   counts : (origin : ℕ) → origin ≤ last_number → key ≡ codes "counts" → text ≡ decimal origin → Two key text
   reached : (origin : ℕ) → origin ≤ last_number → key ≡ codes "reached" → text ≡ decimal origin → Two key text
+  freed : (origin : ℕ) → origin ≤ last_number → key ≡ codes "free" → text ≡ decimal origin → Two key text
+  returns : (secret : List ℕ) → IsSecret secret → key ≡ codes "back" → text ≡ secret → Two key text
   watched : (what : Watch) → IsWatch what → key ≡ codes "watch" → text ∷ [] ≡ watch_words what → Two key text
   unwatched : (what : Subject) → key ≡ codes "unwatch" → text ≡ subject_name what → Two key text
 
@@ -45,6 +51,10 @@ two_of key text word.Digest fits are = absurd (omega (arith, count _ _ are))
 two_of key text word.Keeps fits are = absurd (omega (arith, count _ _ are))
 two_of key text word.Clock fits are = absurd (omega (arith, count _ _ are))
 two_of key text (word.Send sent) fits are = absurd (omega (arith, count _ _ are))
+two_of key text (word.Seat seat.Join) fits are = absurd (omega (arith, count _ _ are))
+two_of key text (word.Seat (seat.Back secret)) fits are = returns secret fits (first _ _ are) (second _ _ are)
+two_of key text (word.Seat seat.Leave) fits are = absurd (omega (arith, count _ _ are))
+two_of key text (word.Seat (seat.Free origin)) fits are = freed origin fits (first _ _ are) (second _ _ are)
 two_of key text (word.Release number) fits are = release number fits (first _ _ are) (second _ _ are)
 two_of key text (word.Counts origin) fits are = counts origin fits (first _ _ are) (second _ _ are)
 two_of key text (word.Reached origin) fits are = reached origin fits (first _ _ are) (second _ _ are)
@@ -55,16 +65,19 @@ two_of key text (word.Watch (watch.Cells from many)) fits are = absurd (omega (a
 two_of key text (word.Watch watch.Horizon) fits are = watched watch.Horizon tt (first _ _ are) (rest _ _ are)
 two_of key text (word.Watch watch.Breach) fits are = watched watch.Breach tt (first _ _ are) (rest _ _ are)
 two_of key text (word.Watch watch.Steps) fits are = watched watch.Steps tt (first _ _ are) (rest _ _ are)
+two_of key text (word.Watch watch.Seats) fits are = watched watch.Seats tt (first _ _ are) (rest _ _ are)
 two_of key text (word.Unwatch what) fits are = unwatched what (first _ _ are) (second _ _ are)
 
--- the keywords of two words differ in their first letter
+-- the keywords of two words differ in their first letter, but two in their third
 pub no_two : (key text : List ℕ) (said : Word) → (key ≡ codes "release" → ⊥) → (key ≡ codes "counts" → ⊥) → (key ≡ codes "reached" → ⊥)
-    → (key ≡ codes "watch" → ⊥) → (key ≡ codes "unwatch" → ⊥)
+    → (key ≡ codes "free" → ⊥) → (key ≡ codes "back" → ⊥) → (key ≡ codes "watch" → ⊥) → (key ≡ codes "unwatch" → ⊥)
     → IsWord said → key ∷ text ∷ [] ≡ word_words said → ⊥
-no_two key text said r n e w u fits are = elim (two_of key text said fits are) [
+no_two key text said r n e f b w u fits are = elim (two_of key text said fits are) [
   | release number small is text_is ↦ r is
   | counts origin small is text_is ↦ n is
   | reached origin small is text_is ↦ e is
+  | freed origin small is text_is ↦ f is
+  | returns secret small is text_is ↦ b is
   | watched what range is text_is ↦ w is
   | unwatched what is text_is ↦ u is
 ]
@@ -75,6 +88,8 @@ no_release key text said key_is none fits are = elim (two_of key text said fits 
   | release number small is text_is ↦ none number small text_is
   | counts origin small is text_is ↦ omega (arith, ap (λ (w : List ℕ). get_or w 0 0) (sym key_is ∙ is))
   | reached origin small is text_is ↦ omega (arith, ap (λ (w : List ℕ). get_or w 2 0) (sym key_is ∙ is))
+  | freed origin small is text_is ↦ omega (arith, ap (λ (w : List ℕ). get_or w 0 0) (sym key_is ∙ is))
+  | returns secret small is text_is ↦ omega (arith, ap (λ (w : List ℕ). get_or w 0 0) (sym key_is ∙ is))
   | watched what range is text_is ↦ omega (arith, ap (λ (w : List ℕ). get_or w 0 0) (sym key_is ∙ is))
   | unwatched what is text_is ↦ omega (arith, ap (λ (w : List ℕ). get_or w 0 0) (sym key_is ∙ is))
 ]
@@ -85,6 +100,8 @@ no_counts key text said key_is none fits are = elim (two_of key text said fits a
   | release number small is text_is ↦ omega (arith, ap (λ (w : List ℕ). get_or w 0 0) (sym key_is ∙ is))
   | counts origin small is text_is ↦ none origin small text_is
   | reached origin small is text_is ↦ omega (arith, ap (λ (w : List ℕ). get_or w 0 0) (sym key_is ∙ is))
+  | freed origin small is text_is ↦ omega (arith, ap (λ (w : List ℕ). get_or w 0 0) (sym key_is ∙ is))
+  | returns secret small is text_is ↦ omega (arith, ap (λ (w : List ℕ). get_or w 0 0) (sym key_is ∙ is))
   | watched what range is text_is ↦ omega (arith, ap (λ (w : List ℕ). get_or w 0 0) (sym key_is ∙ is))
   | unwatched what is text_is ↦ omega (arith, ap (λ (w : List ℕ). get_or w 0 0) (sym key_is ∙ is))
 ]
@@ -95,6 +112,31 @@ no_reached key text said key_is none fits are = elim (two_of key text said fits 
   | release number small is text_is ↦ omega (arith, ap (λ (w : List ℕ). get_or w 2 0) (sym key_is ∙ is))
   | counts origin small is text_is ↦ omega (arith, ap (λ (w : List ℕ). get_or w 0 0) (sym key_is ∙ is))
   | reached origin small is text_is ↦ none origin small text_is
+  | freed origin small is text_is ↦ omega (arith, ap (λ (w : List ℕ). get_or w 0 0) (sym key_is ∙ is))
+  | returns secret small is text_is ↦ omega (arith, ap (λ (w : List ℕ). get_or w 0 0) (sym key_is ∙ is))
+  | watched what range is text_is ↦ omega (arith, ap (λ (w : List ℕ). get_or w 0 0) (sym key_is ∙ is))
+  | unwatched what is text_is ↦ omega (arith, ap (λ (w : List ℕ). get_or w 0 0) (sym key_is ∙ is))
+]
+
+pub no_free : (key text : List ℕ) (said : Word) → key ≡ codes "free" → ((origin : ℕ) → origin ≤ last_number → text ≡ decimal origin → ⊥)
+    → IsWord said → key ∷ text ∷ [] ≡ word_words said → ⊥
+no_free key text said key_is none fits are = elim (two_of key text said fits are) [
+  | release number small is text_is ↦ omega (arith, ap (λ (w : List ℕ). get_or w 0 0) (sym key_is ∙ is))
+  | counts origin small is text_is ↦ omega (arith, ap (λ (w : List ℕ). get_or w 0 0) (sym key_is ∙ is))
+  | reached origin small is text_is ↦ omega (arith, ap (λ (w : List ℕ). get_or w 0 0) (sym key_is ∙ is))
+  | freed origin small is text_is ↦ none origin small text_is
+  | returns secret small is text_is ↦ omega (arith, ap (λ (w : List ℕ). get_or w 0 0) (sym key_is ∙ is))
+  | watched what range is text_is ↦ omega (arith, ap (λ (w : List ℕ). get_or w 0 0) (sym key_is ∙ is))
+  | unwatched what is text_is ↦ omega (arith, ap (λ (w : List ℕ). get_or w 0 0) (sym key_is ∙ is))
+]
+
+pub no_back : (key text : List ℕ) (said : Word) → key ≡ codes "back" → (IsSecret text → ⊥) → IsWord said → key ∷ text ∷ [] ≡ word_words said → ⊥
+no_back key text said key_is none fits are = elim (two_of key text said fits are) [
+  | release number small is text_is ↦ omega (arith, ap (λ (w : List ℕ). get_or w 0 0) (sym key_is ∙ is))
+  | counts origin small is text_is ↦ omega (arith, ap (λ (w : List ℕ). get_or w 0 0) (sym key_is ∙ is))
+  | reached origin small is text_is ↦ omega (arith, ap (λ (w : List ℕ). get_or w 0 0) (sym key_is ∙ is))
+  | freed origin small is text_is ↦ omega (arith, ap (λ (w : List ℕ). get_or w 0 0) (sym key_is ∙ is))
+  | returns secret range is text_is ↦ none (subst IsSecret (sym text_is) range)
   | watched what range is text_is ↦ omega (arith, ap (λ (w : List ℕ). get_or w 0 0) (sym key_is ∙ is))
   | unwatched what is text_is ↦ omega (arith, ap (λ (w : List ℕ). get_or w 0 0) (sym key_is ∙ is))
 ]
@@ -105,6 +147,8 @@ no_watch key text said key_is none fits are = elim (two_of key text said fits ar
   | release number small is text_is ↦ omega (arith, ap (λ (w : List ℕ). get_or w 0 0) (sym key_is ∙ is))
   | counts origin small is text_is ↦ omega (arith, ap (λ (w : List ℕ). get_or w 0 0) (sym key_is ∙ is))
   | reached origin small is text_is ↦ omega (arith, ap (λ (w : List ℕ). get_or w 0 0) (sym key_is ∙ is))
+  | freed origin small is text_is ↦ omega (arith, ap (λ (w : List ℕ). get_or w 0 0) (sym key_is ∙ is))
+  | returns secret small is text_is ↦ omega (arith, ap (λ (w : List ℕ). get_or w 0 0) (sym key_is ∙ is))
   | watched what range is text_is ↦ none what range text_is
   | unwatched what is text_is ↦ omega (arith, ap (λ (w : List ℕ). get_or w 0 0) (sym key_is ∙ is))
 ]
@@ -115,6 +159,8 @@ no_unwatch key text said key_is none fits are = elim (two_of key text said fits 
   | release number small is text_is ↦ omega (arith, ap (λ (w : List ℕ). get_or w 0 0) (sym key_is ∙ is))
   | counts origin small is text_is ↦ omega (arith, ap (λ (w : List ℕ). get_or w 0 0) (sym key_is ∙ is))
   | reached origin small is text_is ↦ omega (arith, ap (λ (w : List ℕ). get_or w 0 0) (sym key_is ∙ is))
+  | freed origin small is text_is ↦ omega (arith, ap (λ (w : List ℕ). get_or w 0 0) (sym key_is ∙ is))
+  | returns secret small is text_is ↦ omega (arith, ap (λ (w : List ℕ). get_or w 0 0) (sym key_is ∙ is))
   | watched what range is text_is ↦ omega (arith, ap (λ (w : List ℕ). get_or w 0 0) (sym key_is ∙ is))
   | unwatched what is text_is ↦ none what text_is
 ]
@@ -123,6 +169,12 @@ no_unwatch key text said key_is none fits are = elim (two_of key text said fits 
 event_now : (input : ℕ) (value : ℤ) (asked : Option ℕ) → IsSending input value asked → IsEventOf input value 0
 event_now input value None fits = fits
 event_now input value (Some tick) fits = (fits.0, fits.1, omega arith)
+
+few_seat : (said : SeatWord) → length (seat_words said) ≤ 2
+few_seat seat.Join = omega arith
+few_seat (seat.Back secret) = omega arith
+few_seat seat.Leave = omega arith
+few_seat (seat.Free origin) = omega arith
 
 -- a word of three words is a watch of something from a number on, asks for so many variables from one on, or sends an input
 pub data Three (key what number : List ℕ) : Type 0 where
@@ -141,6 +193,7 @@ three_of key what number word.Releases fits are = absurd (omega (arith, count _ 
 three_of key what number word.Digest fits are = absurd (omega (arith, count _ _ are))
 three_of key what number word.Keeps fits are = absurd (omega (arith, count _ _ are))
 three_of key what number word.Clock fits are = absurd (omega (arith, count _ _ are))
+three_of key what number (word.Seat said) fits are = absurd (omega (arith, count _ _ are, few_seat said))
 three_of key what number (word.Send sent) fits are =
     sends sent.input sent.value (event_now sent.input sent.value sent.asked fits) (first _ _ are) (second _ _ are)
     (first _ _ (rest _ _ (rest _ _ are)))
@@ -183,6 +236,7 @@ four_of key what f m word.Releases fits are = absurd (omega (arith, count _ _ ar
 four_of key what f m word.Digest fits are = absurd (omega (arith, count _ _ are))
 four_of key what f m word.Keeps fits are = absurd (omega (arith, count _ _ are))
 four_of key what f m word.Clock fits are = absurd (omega (arith, count _ _ are))
+four_of key what f m (word.Seat said) fits are = absurd (omega (arith, count _ _ are, few_seat said))
 four_of key what f m (word.Send sent) fits are = sent_four key what f m sent.input sent.value sent.asked fits are
 four_of key what f m (word.Release n) fits are = absurd (omega (arith, count _ _ are))
 four_of key what f m (word.Counts n) fits are = absurd (omega (arith, count _ _ are))
@@ -196,6 +250,7 @@ four_of key what f m (word.Watch (watch.Cells from many)) fits are =
 four_of key what f m (word.Watch watch.Horizon) fits are = absurd (omega (arith, count _ _ are))
 four_of key what f m (word.Watch watch.Breach) fits are = absurd (omega (arith, count _ _ are))
 four_of key what f m (word.Watch watch.Steps) fits are = absurd (omega (arith, count _ _ are))
+four_of key what f m (word.Watch watch.Seats) fits are = absurd (omega (arith, count _ _ are))
 four_of key what f m (word.Unwatch w) fits are = absurd (omega (arith, count _ _ are))
 
 pub number_of : (what number : List ℕ) (w : Watch) → IsWatch w → what ∷ number ∷ [] ≡ watch_words w
@@ -207,6 +262,7 @@ number_of what number (watch.Cells from many) fits are = absurd (omega (arith, c
 number_of what number watch.Horizon fits are = absurd (omega (arith, count _ _ are))
 number_of what number watch.Breach fits are = absurd (omega (arith, count _ _ are))
 number_of what number watch.Steps fits are = absurd (omega (arith, count _ _ are))
+number_of what number watch.Seats fits are = absurd (omega (arith, count _ _ are))
 
 -- the places of a log begin at 1
 pub no_place_zero : (what : List ℕ) (number : ℕ) (w : Watch) → number ≡ 0 → (what ≡ codes "released" → ⊥) → IsWatch w
@@ -220,6 +276,7 @@ no_place_zero what number (watch.Cells from many) zero other fits are = omega (a
 no_place_zero what number watch.Horizon zero other fits are = omega (arith, count _ _ are)
 no_place_zero what number watch.Breach zero other fits are = omega (arith, count _ _ are)
 no_place_zero what number watch.Steps zero other fits are = omega (arith, count _ _ are)
+no_place_zero what number watch.Seats zero other fits are = omega (arith, count _ _ are)
 
 pub no_watch_from : (what : List ℕ) (number : ℕ) (w : Watch) → (what ≡ codes "released" → ⊥) → (what ≡ codes "log" → ⊥) → IsWatch w
     → what ∷ decimal number ∷ [] ≡ watch_words w → ⊥
@@ -230,6 +287,7 @@ no_watch_from what number (watch.Cells from many) r l fits are = omega (arith, c
 no_watch_from what number watch.Horizon r l fits are = omega (arith, count _ _ are)
 no_watch_from what number watch.Breach r l fits are = omega (arith, count _ _ are)
 no_watch_from what number watch.Steps r l fits are = omega (arith, count _ _ are)
+no_watch_from what number watch.Seats r l fits are = omega (arith, count _ _ are)
 
 few_asked : (asked : Option ℕ) → length (asked_words asked) ≤ 1
 few_asked None = omega arith
@@ -246,6 +304,10 @@ few_words word.Digest = (omega arith, omega arith)
 few_words word.Keeps = (omega arith, omega arith)
 few_words word.Clock = (omega arith, omega arith)
 few_words (word.Send sent) = (omega arith, omega (arith, few_asked sent.asked))
+few_words (word.Seat seat.Join) = (omega arith, omega arith)
+few_words (word.Seat (seat.Back secret)) = (omega arith, omega arith)
+few_words (word.Seat seat.Leave) = (omega arith, omega arith)
+few_words (word.Seat (seat.Free origin)) = (omega arith, omega arith)
 few_words (word.Release number) = (omega arith, omega arith)
 few_words (word.Counts origin) = (omega arith, omega arith)
 few_words (word.Reached origin) = (omega arith, omega arith)
@@ -256,6 +318,7 @@ few_words (word.Watch (watch.Cells from many)) = (omega arith, omega arith)
 few_words (word.Watch watch.Horizon) = (omega arith, omega arith)
 few_words (word.Watch watch.Breach) = (omega arith, omega arith)
 few_words (word.Watch watch.Steps) = (omega arith, omega arith)
+few_words (word.Watch watch.Seats) = (omega arith, omega arith)
 few_words (word.Unwatch what) = (omega arith, omega arith)
 
 plain_subject : (what : Subject) → is_plain (subject_name what) ≡ true
@@ -266,12 +329,22 @@ plain_subject subject.Cells = refl
 plain_subject subject.Horizon = refl
 plain_subject subject.Breach = refl
 plain_subject subject.Steps = refl
+plain_subject subject.Seats = refl
 
 plain_sent : (input : ℕ) (value : ℤ) (asked : Option ℕ) → IsSending input value asked
     → are_plain (codes "send" ∷ decimal input ∷ signed_decimal value ∷ asked_words asked) ≡ true
 plain_sent input value None fits = rw (plain_decimal input (omega (arith, fits.0))) (rw (plain_signed value fits.1) refl)
 plain_sent input value (Some tick) fits =
     rw (plain_decimal input (omega (arith, fits.0))) (rw (plain_signed value fits.1) (rw (plain_decimal tick (omega (arith, fits.2))) refl))
+
+-- so is a secret
+past_space : (byte : ℕ) → IsSecretDigit byte → 32 < byte
+past_space byte (inl digit) = omega (arith, digit.0)
+past_space byte (inr letter) = omega (arith, letter.0)
+
+plain_secret : (secret : List ℕ) → IsSecret secret → is_plain secret ≡ true
+plain_secret secret fits =
+    list_all-from_AllPass (ltb 32) secret (λ k d below. lt-ltb 32 (get_or secret k d) (past_space (get_or secret k d) (fits.each k d below)))
 
 -- the words of a word are plain
 pub plain_words : (said : Word) → IsWord said → are_plain (word_words said) ≡ true
@@ -285,6 +358,10 @@ plain_words word.Digest fits = refl
 plain_words word.Keeps fits = refl
 plain_words word.Clock fits = refl
 plain_words (word.Send sent) fits = plain_sent sent.input sent.value sent.asked fits
+plain_words (word.Seat seat.Join) fits = refl
+plain_words (word.Seat (seat.Back secret)) fits = rw (plain_secret secret fits) refl
+plain_words (word.Seat seat.Leave) fits = refl
+plain_words (word.Seat (seat.Free origin)) fits = rw (plain_decimal origin (omega (arith, fits))) refl
 plain_words (word.Release number) fits = rw (plain_decimal number (omega (arith, fits))) refl
 plain_words (word.Counts origin) fits = rw (plain_decimal origin (omega (arith, fits))) refl
 plain_words (word.Reached origin) fits = rw (plain_decimal origin (omega (arith, fits))) refl
@@ -296,6 +373,7 @@ plain_words (word.Watch (watch.Cells from many)) fits =
 plain_words (word.Watch watch.Horizon) fits = refl
 plain_words (word.Watch watch.Breach) fits = refl
 plain_words (word.Watch watch.Steps) fits = refl
+plain_words (word.Watch watch.Seats) fits = refl
 plain_words (word.Unwatch what) fits = rw (plain_subject what) refl
 
 -- the words of a text that spells a word

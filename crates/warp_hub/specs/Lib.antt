@@ -1,4 +1,5 @@
 pub mod Follow
+pub mod Keeps
 pub mod Rights
 pub mod Said
 pub mod Tokens

@@ -16,6 +16,8 @@ pub struct Facts {
     pub most_clients: u32,
     /// How many inputs of an origin a tick takes that the host gives their tags.
     pub most_inputs: u32,
+    /// Whether the host has seats, and knows words on them.
+    pub has_seats: bool,
     /// Who may send what; where there are none, everybody may send everything.
     pub tokens: Option<Tokens>,
 }

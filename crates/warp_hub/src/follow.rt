@@ -3,7 +3,7 @@
 //! A follower has no socket and no clock: bytes of the peer come in; bytes to the peer go out, and lines to be handed
 //! on, each a record that the peer told. Who has the follower has them answered, and brings it the answers. It keeps no
 //! more of the peer's bytes than one unfinished line.
-ghost use Rattle.std.specs.Prelude.{◌≡◌, ◌⊎◌, ◌==◌, ◌&&◌, ◌↔◌, ℕ, List, ◌+◌, ◌-◌, ◌<◌, ◌≤◌, [], ◌∷◌, ◌++◌, false, true, IfNone, IfSome, IsTrue, OnErr};
+ghost use Rattle.std.specs.Prelude.{◌≡◌, ◌⊎◌, ◌==◌, ◌&&◌, ◌↔◌, ℕ, Bool, List, ◌+◌, ◌-◌, ◌<◌, ◌≤◌, [], ◌∷◌, ◌++◌, false, true, IfNone, IfSome, IsTrue, OnErr};
 ghost use Rattle.std.specs.Prelude.{OnOk, length, min};
 ghost use Rattle.std.specs.List.{before_first};
 ghost use Rattle.warp_tag.specs.Limits.{most_records, widest};
@@ -12,9 +12,13 @@ ghost use Rattle.warp_record.specs.Record.{record_spelling};
 ghost use Rattle.warp_record.specs.Reply.{IsReply, reply_spelling};
 ghost use Rattle.warp_record.specs.declared.record.Record.{Record};
 ghost use Rattle.warp_record.specs.declared.reply.Reply.{Reply};
-ghost use Rattle.warp_hub.specs.Follow.{Counts, Hears, HearsPiece, IsFollowed, LeadsTo, PlacesBehind, TellsRecord, due_first, follows, phase_again, unconnected};
+ghost use Rattle.warp_hub.specs.Follow.{Counts, HandsRecord, Hears, HearsPiece, IsAskedKeeps, IsFollowed, KeepsBehind, LeadsTo};
+ghost use Rattle.warp_hub.specs.Follow.{PlacesBehind, TellsRecord, due_first, follows, phase_again, unconnected};
+ghost use Rattle.warp_hub.specs.Keeps.{IsFirstCommon, Lists, SaysKeeps, no_flags};
 ghost use Rattle.warp_hub.specs.declared.follow.Phase.{Phase};
 
+use crate::rights::MOST_ORIGINS;
+use crate::tokens::mark;
 use itoa::Buffer;
 use std::marker::Model;
 use warp_record::{
@@ -46,6 +50,16 @@ pub enum PeerEvent {
     Strange,
     /// There was no memory for a record of it: the connection is to be ended, and tried again.
     NoMemory,
+    /// It keeps an origin that this host keeps too. It is not followed.
+    KeepsToo {
+        /// The first such origin.
+        origin: u32,
+    },
+    /// A record of it was not taken, since it is of an origin that this host keeps; no other is told.
+    NotTaken {
+        /// The record's place in the peer's log.
+        place: u32,
+    },
     /// A record of it was refused; no other with this number is told.
     Refused {
         /// The record's place in the peer's log.
@@ -64,6 +78,8 @@ pub enum Phase {
     Token(bool),
     /// The answer to `program`.
     Program,
+    /// The answer to `keeps`.
+    Keeps,
     /// The record that was had last, again, from a host or a `serve`.
     Check(bool),
     /// The answer to `watch log P`.
@@ -87,12 +103,18 @@ pub struct PeerToken {
 }
 
 /// Follows the log of one peer. Contracts see what it keeps of an unfinished line, the form of its records, the own
-/// program's line, what is due from the peer, and the place of the record that comes next.
+/// program's line, which origins this host keeps, which the peer keeps, what is due from the peer, and the place of the record
+/// that comes next.
 #[derive(Drop)]
 pub struct Follower {
     form: Form,
     /// The own program's line.
     program: Vec<u8>,
+    /// Which origins this host keeps.
+    own: [bool; MOST_ORIGINS],
+    /// Which the peer keeps, as it told last, and whether that was not asked for since.
+    keeps: [bool; MOST_ORIGINS],
+    tells_keeps: bool,
     token: Option<PeerToken>,
     feed: Feed,
     phase: Phase,
@@ -113,7 +135,7 @@ pub struct Follower {
 }
 
 impl Model for Follower {
-    ghost use Rattle.std.specs.Prelude.{◌<◌, ◌≤◌, ◌+◌};
+    ghost use Rattle.std.specs.Prelude.{◌≡◌, ◌<◌, ◌≤◌, ◌+◌, length};
     ghost use Rattle.warp_tag.specs.Limits.{most_records, widest};
     ghost use Rattle.warp_hub.specs.Follow.{FollowState};
 
@@ -124,23 +146,33 @@ impl Model for Follower {
           kept = f.feed;
           form = f.form;
           program = f.program.items;
+          own = f.own;
+          keeps = f.keeps;
           phase = f.phase;
           next = f.next;
           missing = f.missing;
         } };
 
     ghost invariant = { λ f.
-        (f.missing < f.next) × (f.next ≤ most_records widest + 1) × (f.asked ≤ 64) × (f.len ≤ most_records widest) };
+        (length f.own ≡ 64) × (length f.keeps ≡ 64) × (f.missing < f.next) × (f.next ≤ most_records widest + 1) × (f.asked ≤ 64) × (f.len ≤ most_records widest) };
 }
 
 impl Follower {
     /// A follower of a peer from the first place of its log on. The records are of this form; the own program's line is
-    /// what a host answers to `program`, without its line feed. The token is what the peer wants, if it wants one.
-    pub fn new(form: Form, program: Vec<u8>, token: Option<PeerToken>) -> Follower
+    /// what a host answers to `program`, without its line feed; `own` says which origins this host keeps, each at the place of
+    /// its number. The token is what the peer wants, if it wants one.
+    pub fn new(
+        form: Form,
+        program: Vec<u8>,
+        own: [bool; MOST_ORIGINS],
+        token: Option<PeerToken>,
+    ) -> Follower
         ensures { result ≡ record {
           kept = kept_of [];
           form = form;
           program = program.items;
+          own = own;
+          keeps = no_flags;
           phase = Phase.Over;
           next = 1;
           missing = 0;
@@ -149,6 +181,9 @@ impl Follower {
         Follower {
             form,
             program,
+            own,
+            keeps: NO_FLAGS,
+            tells_keeps: false,
             token,
             feed: Feed::new(),
             phase: Phase::Over,
@@ -169,6 +204,18 @@ impl Follower {
         ensures { IsTrue result ↔ (self.now.phase ≡ Phase.Over) }
     {
         self.phase == Phase::Over
+    }
+
+    /// Which origins the peer keeps, each at the place of its number, where it told that since this was asked last.
+    pub fn take_keeps(&mut self) -> Option<[bool; MOST_ORIGINS]>
+        ensures same { self.new ≡ self.old }
+        ensures told { IfSome result (λ flags. flags ≡ self.old.keeps) }
+    {
+        if !self.tells_keeps {
+            return None;
+        }
+        self.tells_keeps = false;
+        Some(self.keeps)
     }
 
     /// Whether a `serve` is to be asked again after a pause: it has nothing new.
@@ -262,7 +309,7 @@ impl Follower {
         handed: &mut Vec<u8>,
     ) -> (usize, Option<PeerEvent>)
         ensures taken { result.0 ≡ min (first_end bytes.now + 1) (length bytes.now) }
-        ensures form { (self.new.form ≡ self.old.form) × (self.new.program ≡ self.old.program) }
+        ensures form { (self.new.form ≡ self.old.form) × (self.new.program ≡ self.old.program) × (self.new.own ≡ self.old.own) }
         ensures waits { length bytes.now ≤ first_end bytes.now → (line : List ℕ) → self.old.kept ≡ kept_of line →
             (handed.new.items ≡ handed.old.items) × (self.new ≡ record self.old { kept = kept_of (line ++ bytes.now) }) }
         ensures hears { first_end bytes.now < length bytes.now → (line : List ℕ) → self.old.kept ≡ kept_of line →
@@ -286,7 +333,12 @@ impl Follower {
         handed: &mut Vec<u8>,
     ) -> Option<PeerEvent>
         ensures hears { HearsPiece self.old (piece_of fed.now) handed.old.items result self.new handed.new.items }
-        ensures others { self.new ≡ record self.old { phase = self.new.phase; next = self.new.next; missing = self.new.missing } }
+        ensures others { self.new ≡ record self.old {
+          keeps = self.new.keeps;
+          phase = self.new.phase;
+          next = self.new.next;
+          missing = self.new.missing;
+        } }
     {
         match fed {
             Fed::Text(line) => self.hear(line, said, handed),
@@ -305,10 +357,37 @@ impl Follower {
         let (count, fed) = self.answers.push(bytes);
         let event = match fed {
             None => None,
-            Some(Fed::Text(line)) => self.answered(read_reply(self.form, &line)),
+            Some(Fed::Text(line)) => self.hear_answer(&line),
             Some(_) => self.answered(None),
         };
         (count, event)
+    }
+
+    /// Hears what was answered to a record.
+    fn hear_answer(&mut self, line: &[u8]) -> Option<PeerEvent>
+        ensures counts { Counts self.old self.new }
+        ensures others { self.new ≡ record self.old { phase = self.new.phase; next = self.new.next; missing = self.new.missing } }
+    {
+        if is_keyword(line, REFUSED_15) {
+            return self.not_taken();
+        }
+        self.answered(read_reply(self.form, line))
+    }
+
+    /// A record was not taken, since it is of an origin that this host keeps: that is told once.
+    fn not_taken(&mut self) -> Option<PeerEvent>
+        ensures counts { Counts self.old self.new }
+        ensures others { self.new ≡ record self.old { phase = self.new.phase; next = self.new.next; missing = self.new.missing } }
+    {
+        let is_due = self.stale == 0 && self.missing > 0;
+        let place = self.next - self.missing;
+        let is_told = self.told & NOT_TAKEN != 0;
+        let _ = self.answered(None);
+        if !is_due || is_told {
+            return None;
+        }
+        self.told |= NOT_TAKEN;
+        Some(PeerEvent::NotTaken { place })
     }
 
     /// What was answered to a record; `None` is no reply that reads.
@@ -394,13 +473,19 @@ impl Follower {
     /// Hears a line of the peer.
     fn hear(&mut self, line: &[u8], said: &mut Vec<u8>, handed: &mut Vec<u8>) -> Option<PeerEvent>
         ensures hears { Hears self.old line.now handed.old.items result self.new handed.new.items }
-        ensures others { self.new ≡ record self.old { phase = self.new.phase; next = self.new.next; missing = self.new.missing } }
+        ensures others { self.new ≡ record self.old {
+          keeps = self.new.keeps;
+          phase = self.new.phase;
+          next = self.new.next;
+          missing = self.new.missing;
+        } }
     {
         match self.phase {
             Phase::Over => Some(self.end(PeerEvent::Strange)),
             Phase::Level => Some(self.end(PeerEvent::Strange)),
             Phase::Token(is_told) => self.on_token(line, is_told, said),
             Phase::Program => self.on_program(line, said),
+            Phase::Keeps => self.on_keeps(line, said),
             Phase::Check(is_host) => self.on_check(line, is_host, said),
             Phase::Watch => self.on_watching(line),
             Phase::Pushed => self.on_push(line, handed),
@@ -434,7 +519,7 @@ impl Follower {
         if !line.starts_with(b"may ") {
             return Some(self.end(PeerEvent::Strange));
         }
-        self.check(true, said)
+        self.ask_keeps(said)
     }
 
     /// Hears the answer to `program`.
@@ -465,16 +550,45 @@ impl Follower {
     /// Says the token to a host of the own program, unless it was said or there is none: then it goes on.
     fn show(&mut self, said: &mut Vec<u8>) -> Option<PeerEvent>
         ensures others { self.new ≡ record self.old { phase = self.new.phase } }
-        ensures leads { (self.new.phase ≡ Phase.Token true) ⊎ IsFollowed true self.new.phase }
+        ensures leads { (self.new.phase ≡ Phase.Token true) ⊎ IsAskedKeeps self.new.phase }
     {
         match self.say_token(false, said) {
-            Ok(false) => self.check(true, said),
+            Ok(false) => self.ask_keeps(said),
             Ok(true) => {
                 self.phase = Phase::Token(true);
                 None
             }
             Err(_) => Some(self.end(PeerEvent::NoMemory)),
         }
+    }
+
+    /// Asks a host of the own program which origins it keeps.
+    fn ask_keeps(&mut self, said: &mut Vec<u8>) -> Option<PeerEvent>
+        ensures others { self.new ≡ record self.old { phase = self.new.phase } }
+        ensures asks { IsAskedKeeps self.new.phase }
+    {
+        if say(said, b"keeps", b"").is_err() {
+            return Some(self.end(PeerEvent::NoMemory));
+        }
+        self.phase = Phase::Keeps;
+        None
+    }
+
+    /// Hears which origins a host keeps. It is followed where this host keeps none of these.
+    fn on_keeps(&mut self, line: &[u8], said: &mut Vec<u8>) -> Option<PeerEvent>
+        ensures others { self.new ≡ record self.old { keeps = self.new.keeps; phase = self.new.phase } }
+        ensures leads { LeadsTo Phase.Keeps self.old.program line.now self.new.phase }
+        ensures keeps { KeepsBehind self.old line.now result self.new }
+    {
+        let Some(flags) = read_keeps(line) else {
+            return Some(self.end_by(line));
+        };
+        if let Some(origin) = first_common(&self.own, &flags) {
+            return Some(self.end(PeerEvent::KeepsToo { origin }));
+        }
+        self.keeps = flags;
+        self.tells_keeps = true;
+        self.check(true, said)
     }
 
     /// Asks for the record that was had last, to see that the peer's log is the same; if there is one.
@@ -574,7 +688,7 @@ impl Follower {
     /// Hears a push of a host: the record at the next place.
     fn on_push(&mut self, line: &[u8], handed: &mut Vec<u8>) -> Option<PeerEvent>
         requires { self.old.phase ≡ Phase.Pushed }
-        ensures hears { Hears self.old line.now handed.old.items result self.new handed.new.items }
+        ensures hears { HandsRecord self.old line.now handed.old.items result self.new handed.new.items }
         ensures others { self.new ≡ record self.old { phase = self.new.phase; next = self.new.next; missing = self.new.missing } }
     {
         let Some(record) = pushed(self.form, line, self.next) else {
@@ -594,7 +708,7 @@ impl Follower {
         handed: &mut Vec<u8>,
     ) -> Option<PeerEvent>
         requires { self.old.phase ≡ Phase.Asked }
-        ensures hears { Hears self.old line.now handed.old.items result self.new handed.new.items }
+        ensures hears { HandsRecord self.old line.now handed.old.items result self.new handed.new.items }
         ensures others { self.new ≡ record self.old { phase = self.new.phase; next = self.new.next; missing = self.new.missing } }
     {
         self.asked = self.asked.saturating_sub(1);
@@ -658,6 +772,56 @@ impl Follower {
 
 /// What a host or a `serve` says to a line that it does not know.
 const REFUSED_1: &[u8] = b"refused 1";
+
+/// What a host says of a record of an origin that another host keeps.
+const REFUSED_15: &[u8] = b"refused 15";
+
+/// That such a record was told, among the refusals that were.
+const NOT_TAKEN: u32 = 1 << 15;
+
+/// No origin.
+const NO_FLAGS: [bool; MOST_ORIGINS] = [false; MOST_ORIGINS];
+
+/// Which origins a host keeps that answers this to `keeps`, each at the place of its number; `None` where it is no such answer.
+/// A host that knows no such word keeps none.
+fn read_keeps(line: &[u8]) -> Option<[bool; MOST_ORIGINS]>
+    ensures found { IfSome result (SaysKeeps line.now) }
+    ensures none { IfNone result ((flags : List Bool) → SaysKeeps line.now flags → ⊥) }
+{
+    if is_keyword(line, REFUSED_1) || is_keyword(line, b"keeps") {
+        return Some(NO_FLAGS);
+    }
+    if is_keyword(line, b"keeps all") {
+        return Some([true; MOST_ORIGINS]);
+    }
+    read_list(line.strip_prefix(b"keeps ")?)
+}
+
+/// The origins whose numbers stand in the text, with a space between two; `None` where it is none such.
+fn read_list(text: &[u8]) -> Option<[bool; MOST_ORIGINS]>
+    ensures found { IfSome result (Lists text.now) }
+    ensures none { IfNone result ((flags : List Bool) → Lists text.now flags → ⊥) }
+{
+    let mut flags = NO_FLAGS;
+    for word in text.split(|byte| *byte == b' ') {
+        if !mark(&mut flags, Form::Four, word) {
+            return None;
+        }
+    }
+    Some(flags)
+}
+
+/// The first origin that is among both.
+fn first_common(own: &[bool; MOST_ORIGINS], others: &[bool; MOST_ORIGINS]) -> Option<u32>
+    ensures { IsFirstCommon own.now others.now result }
+{
+    for origin in 0..MOST_ORIGINS {
+        if own[origin] && others[origin] {
+            return Some(origin as u32);
+        }
+    }
+    None
+}
 
 /// What a host says where a token is wanted, or another one.
 const REFUSED_13: &[u8] = b"refused 13";

@@ -17,4 +17,6 @@ pub use follow::{Follower, PeerEvent, PeerToken, Phase};
 pub use rights::{MOST_ORIGINS, Rights};
 pub use said::is_said;
 pub use tokens::{Tokens, TokensFault, digest_of};
-pub use words::{Sending, Subject, Watch, Word, read_token, read_word};
+pub use words::{
+    SECRET_DIGITS, SeatWord, Sending, Subject, Watch, Word, is_of_seats, read_token, read_word,
+};

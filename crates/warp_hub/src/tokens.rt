@@ -76,7 +76,7 @@ fn find_digest(entries: &[Entry], digest: &[u8; 32]) -> Option<Rights>
 }
 
 /// The flag of the origin whose number this word is goes up; whether it is one.
-fn mark(origins: &mut [bool; MOST_ORIGINS], form: Form, word: &[u8]) -> bool
+pub(crate) fn mark(origins: &mut [bool; MOST_ORIGINS], form: Form, word: &[u8]) -> bool
     ensures marked { result ≡ true → Marks form word.now origins.old origins.new }
     ensures none { result ≡ false → (origin : ℕ) → origin < most_origins form → word.now ≡ decimal origin → ⊥ }
 {

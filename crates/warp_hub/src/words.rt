@@ -3,7 +3,7 @@
 ghost use Rattle.std.specs.Prelude.{◌≡◌, ℕ, ℤ, List, ◌≤◌, [], ◌∷◌, IfNone, IfSome, IsTrue, ◌↔◌, codes, decimal, map};
 ghost use Rattle.std.specs.Fmt.{signed_decimal};
 ghost use Rattle.warp_tag.specs.Limits.{last_number};
-ghost use Rattle.warp_hub.specs.Words.{IsEventOf, IsRange, IsToken, IsWatch, IsWord, subject_name, token_spelling, watch_words};
+ghost use Rattle.warp_hub.specs.Words.{IsEventOf, IsRange, IsSecret, IsSecretDigit, IsToken, IsWatch, IsWord, is_of_seats, subject_name, token_spelling, watch_words};
 ghost use Rattle.warp_hub.specs.Words.{word_spelling, word_words};
 ghost use Rattle.warp_hub.specs.declared.words.Subject.{Subject};
 ghost use Rattle.warp_hub.specs.declared.words.Watch.{Watch};
@@ -32,6 +32,8 @@ pub enum Subject {
     Breach,
     /// `steps`: what the replica executes.
     Steps,
+    /// `seats`: who sits where.
+    Seats,
 }
 
 /// What is to be watched, and from where on.
@@ -52,6 +54,8 @@ pub enum Watch {
     Breach,
     /// `steps`: what the replica executes from now on.
     Steps,
+    /// `seats`: who sits where, now and at each change.
+    Seats,
 }
 
 /// An input that the host gives its tag.
@@ -63,6 +67,22 @@ pub struct Sending {
     pub value: i64,
     /// The tick that is asked for; `None` where it is the one that the host's clock says.
     pub asked: Option<u64>,
+}
+
+/// How many digits the secret of a seat has, each one of `0` to `9` and `a` to `f`.
+pub const SECRET_DIGITS: usize = 32;
+
+/// A word on seats.
+#[derive(Clone, Copy)]
+pub enum SeatWord {
+    /// `join`: a seat is wanted.
+    Join,
+    /// `back SECRET`: the seat of this secret is.
+    Back([u8; SECRET_DIGITS]),
+    /// `leave`: the own seat is free from now on.
+    Leave,
+    /// `free O`: the seat of this origin is.
+    Free(u32),
 }
 
 /// A word, but for `token T`.
@@ -86,6 +106,8 @@ pub enum Word {
     Clock,
     /// `send I V [T]`: an input, to which the host gives its tag.
     Send(Sending),
+    /// A word on seats.
+    Seat(SeatWord),
     /// `release I`: the released output with this number, from 0.
     Release(u32),
     /// `counts O`: how many names this origin has.
@@ -125,6 +147,10 @@ fn word_of_one(word: &[u8]) -> Option<Word>
         Some(Word::Keeps)
     } else if is_keyword(word, b"clock") {
         Some(Word::Clock)
+    } else if is_keyword(word, b"join") {
+        Some(Word::Seat(SeatWord::Join))
+    } else if is_keyword(word, b"leave") {
+        Some(Word::Seat(SeatWord::Leave))
     } else {
         None
     }
@@ -149,6 +175,8 @@ fn subject_of(word: &[u8]) -> Option<Subject>
         Some(Subject::Breach)
     } else if is_keyword(word, b"steps") {
         Some(Subject::Steps)
+    } else if is_keyword(word, b"seats") {
+        Some(Subject::Seats)
     } else {
         None
     }
@@ -167,9 +195,46 @@ fn watch_of_one(word: &[u8]) -> Option<Watch>
         Some(Watch::Breach)
     } else if is_keyword(word, b"steps") {
         Some(Watch::Steps)
+    } else if is_keyword(word, b"seats") {
+        Some(Watch::Seats)
     } else {
         None
     }
+}
+
+/// Whether the byte is a digit of a secret.
+fn is_secret_digit(byte: u8) -> bool
+    ensures { IsTrue result ↔ IsSecretDigit byte }
+{
+    byte.is_ascii_digit() || (byte >= b'a' && byte <= b'f')
+}
+
+/// Whether these bytes are a secret.
+fn is_secret(bytes: &[u8]) -> bool
+    ensures { IsTrue result ↔ IsSecret bytes.now }
+{
+    if bytes.len() != SECRET_DIGITS {
+        return false;
+    }
+    for byte in bytes {
+        if !is_secret_digit(*byte) {
+            return false;
+        }
+    }
+    true
+}
+
+/// The secret that the word spells.
+fn read_secret(word: &[u8]) -> Option<[u8; SECRET_DIGITS]>
+    ensures found { IfSome result (λ secret. IsSecret secret × (word.now ≡ secret)) }
+    ensures none { IfNone result (IsSecret word.now → ⊥) }
+{
+    if !is_secret(word) {
+        return None;
+    }
+    let mut secret = [0; SECRET_DIGITS];
+    secret.copy_from_slice(word);
+    Some(secret)
 }
 
 /// The word that is spelled by these two; `None` where there is none.
@@ -185,6 +250,12 @@ fn word_of_two(word: &[u8], rest: &[u8]) -> Option<Word>
     }
     if is_keyword(word, b"reached") {
         return Some(Word::Reached(read_index(rest)?));
+    }
+    if is_keyword(word, b"free") {
+        return Some(Word::Seat(SeatWord::Free(read_index(rest)?)));
+    }
+    if is_keyword(word, b"back") {
+        return Some(Word::Seat(SeatWord::Back(read_secret(rest)?)));
     }
     if is_keyword(word, b"watch") {
         return Some(Word::Watch(watch_of_one(rest)?));
@@ -344,6 +415,29 @@ fn word_of(words: &[&[u8]]) -> Option<Word>
         [word, what, number] => word_of_three(word, what, number),
         [word, what, first, count] => word_of_four(word, what, first, count),
         _ => None,
+    }
+}
+
+/// Whether a word is one on seats, which a host without seats has not.
+pub fn is_of_seats(word: &Word) -> bool
+    ensures { result ≡ is_of_seats word.now }
+{
+    match *word {
+        Word::Seat(_) => true,
+        Word::Watch(watch) => matches!(watch, Watch::Seats),
+        Word::Unwatch(subject) => matches!(subject, Subject::Seats),
+        Word::Program
+        | Word::Names
+        | Word::Vars
+        | Word::Cells(..)
+        | Word::Releases
+        | Word::Digest
+        | Word::Keeps
+        | Word::Clock
+        | Word::Send(_)
+        | Word::Release(_)
+        | Word::Counts(_)
+        | Word::Reached(_) => false,
     }
 }
 

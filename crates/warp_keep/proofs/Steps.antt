@@ -41,6 +41,10 @@ module _ (keeps : ℕ → Bool) (first : List Record) (P : Program) (log : List 
   pub takes_keep : (said : Record) (result : Result Took Refusal) (log' : List Record) → GoesOn keeps first log → Judges keeps P log said Open → Takes P log said result log' → GoesOn keeps first log'
   takes_keep said result log' on judged = takes keeps first P log said result log' on (λ new speaks. open_may keeps P log said new speaks judged)
 
+  -- nothing that is new and speaks of a kept origin
+  pub brought_keep : (said : Record) (result : Result Took Refusal) (log' : List Record) → GoesOn keeps first log → (IsNew P log said × SpeaksOfKept keeps said → ⊥) → Takes P log said result log' → GoesOn keeps first log'
+  brought_keep said result log' on old = takes keeps first P log said result log' on (λ new speaks. absurd (old (new, speaks)))
+
   pub closes_keep : (origin : ℕ) (end : Moment) (said : Record) (result : Result Took Refusal) (log' : List Record) → GoesOn keeps first log → IsClosing (set_of log) origin end said → Takes P log said result log' → GoesOn keeps first log'
   closes_keep origin end said result log' on closing =
       takes keeps first P log said result log' on (λ new kept. subst (λ (r : Record). MayCome (set_of log) r) (sym closing.2) closing.3.0)

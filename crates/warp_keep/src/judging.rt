@@ -40,8 +40,8 @@ impl Keeping {
         judge_kept(self, replica, record)
     }
 
-    /// Whether the record speaks of a kept origin.
-    fn speaks_of_kept(&self, record: &Record) -> bool
+    /// Whether the record speaks of a kept origin: of that origin alone, or, as a joint announcement, of all.
+    pub fn speaks_of_kept(&self, record: &Record) -> bool
         ensures { IsTrue result ↔ SpeaksOfKept (keeps self.now) «record».now }
     {
         match record.origin() {

@@ -1,5 +1,5 @@
 //! Which origins a host keeps.
-ghost use Rattle.std.specs.Prelude.{◌≡◌, ◌↔◌, ◌≤◌, ℕ, false, Contains, IsTrue, IfNone, IfSome, slice_index_or};
+ghost use Rattle.std.specs.Prelude.{◌≡◌, ◌↔◌, ◌<◌, ◌≤◌, ℕ, false, Contains, IsTrue, IfNone, IfSome, slice_index_or};
 ghost use Rattle.warp_tag.specs.Limits.{most_origins, widest};
 ghost use Rattle.warp_keep.specs.Kept.{AreAllKept};
 ghost use Rattle.warp_keep.specs.Keeping.{keeps};
@@ -50,6 +50,17 @@ impl Keeping {
             },
             Keeping::All => true,
         }
+    }
+
+    /// Which origins it keeps, each at the place of its number.
+    pub fn flags(&self) -> [bool; MOST_ORIGINS]
+        ensures { (origin : ℕ) → origin < 64 → slice_index_or result origin false ≡ keeps self.now origin }
+    {
+        let mut flags = [false; MOST_ORIGINS];
+        for origin in 0..MOST_ORIGINS as u32 {
+            flags[origin as usize] = self.keeps(origin);
+        }
+        flags
     }
 
     /// Whether it keeps all of the program's origins.

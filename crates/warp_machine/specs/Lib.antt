@@ -3,4 +3,5 @@ pub mod Keeping
 pub mod Operating
 pub mod Places
 pub mod Peering
+pub mod Seating
 pub mod Ticking

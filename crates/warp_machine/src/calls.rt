@@ -193,6 +193,7 @@ impl<T: Timeline> Machine<T> {
     {
         self.conns.leave(who);
         self.watchers.leave(who);
+        self.note_parted(who);
         moves::leave(&mut self.clients, who);
         self.look_at_end();
     }

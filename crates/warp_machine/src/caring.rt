@@ -76,8 +76,12 @@ impl<T: Timeline> Machine<T> {
             Some(since) => since.saturating_add(LONGEST_END),
             None => u64::MAX,
         };
-        self.timers
-            .due(&[self.moment_of_peers(), self.moment_of_clock(), end])
+        self.timers.due(&[
+            self.moment_of_peers(),
+            self.moment_of_clock(),
+            self.moment_of_seats(),
+            end,
+        ])
     }
 
     /// Looks after each client.

@@ -107,6 +107,14 @@ impl<T: Timeline, P: LastDone<T>> Decides<P> for Machine<T> {
         Machine::records_behind(self, count, most, list)
     }
 
+    fn seats_since(&self, number: u64, text: &mut Vec<u8>) -> Result<Option<u64>, OutOfMemory> {
+        Machine::seats_since(self, number, text)
+    }
+
+    fn seats_kept(&mut self, number: u64, now: u64) {
+        Machine::seats_kept(self, number, now);
+    }
+
     fn turn(&mut self, now: u64) -> bool {
         Machine::turn::<P>(self, now)
     }

@@ -18,5 +18,6 @@ pub fn host_machine<
         Ok(mut machine) => host::<X, P, Machine<T>>(rt, alloc, &mut machine, outside),
         Err(NoMachine::NoMemory) => Err(HostFault::NoMemory),
         Err(NoMachine::NotKept(origin)) => Err(HostFault::NotKept(origin)),
+        Err(NoMachine::OtherSeats) => Err(HostFault::OtherSeats),
     }
 }

@@ -16,12 +16,13 @@ use crate::conns::Conns;
 use crate::moves;
 use crate::operating::Level;
 use crate::peering::Followed;
+use crate::seating::{HostSeats, SeatOptions, seats_over};
 use crate::shares::Shares;
 use crate::start::{JournalSeen, Options, PeerAt, Start};
 use crate::ticking::{HostClock, clock_over};
 use std::alloc::Global;
 use std::collections::VecDeque;
-use warp_clients::{Clients, what_is_told};
+use warp_clients::{Clients, Seats, what_is_told};
 use warp_hub::Rights;
 use warp_keep::Keeping;
 use warp_line::Timeline;
@@ -99,6 +100,8 @@ pub enum NoMachine {
     NoMemory,
     /// This origin can't be kept: an announcement that speaks of it is broken, or a name of it has two payloads.
     NotKept(u32),
+    /// The text of seats is none of these.
+    OtherSeats,
 }
 
 /// A host.
@@ -126,6 +129,8 @@ pub struct Machine<T: Timeline> {
     pub(crate) options: Options,
     /// The clock of what it keeps.
     pub(crate) clock: Option<HostClock>,
+    /// What it has beside the seats of its room, if there are some.
+    pub(crate) seats: Option<HostSeats>,
     pub(crate) most_records: u32,
     /// The answer to `program`.
     program: Vec<u8>,
@@ -164,6 +169,9 @@ impl<T: Timeline> Machine<T> {
         if let Err(origin) = start.keeping.may_keep(&start.replica) {
             return Err(NoMachine::NotKept(origin));
         }
+        if has_other_seats(&start.seats) {
+            return Err(NoMachine::OtherSeats);
+        }
         let Ok(program) = Vec::from_slice(alloc, &start.facts.program) else {
             return Err(NoMachine::NoMemory);
         };
@@ -186,6 +194,7 @@ impl<T: Timeline> Machine<T> {
         program: Vec<u8>,
         options: Options,
         clock: Option<HostClock>,
+        seats: Option<HostSeats>,
         now: u64,
     ) -> Machine<T>
         ensures { result.clients ≡ clients }
@@ -216,6 +225,7 @@ impl<T: Timeline> Machine<T> {
             journal: NO_JOURNAL,
             options,
             clock,
+            seats,
             most_records,
             program,
             level: Level::Info,
@@ -279,13 +289,14 @@ impl<T: Timeline> Machine<T> {
         };
         let PeerAt { address, token } = peer;
         let program = Vec::from_slice(self.alloc, &self.program)?;
-        let peer = Peer::new(self.alloc, address, form, program, token, self.now);
+        let own = self.clients.room().keeping().flags();
+        let peer = Peer::new(self.alloc, address, form, program, own, token, self.now);
         self.pages.name_peer(peer.name())?;
         self.conns.reserve()?;
         let Some(who) = moves::come_as(&mut self.clients, Rights::All) else {
             return Err(OutOfMemory);
         };
-        if !self.give_place(who, Some(number)) {
+        if !moves::add_peer(&mut self.clients, who) || !self.give_place(who, Some(number)) {
             return Err(OutOfMemory);
         }
         self.peers.push(Followed::new(peer, who))?;
@@ -361,6 +372,8 @@ fn begin<T: Timeline>(
         options,
         keeping,
         clock,
+        is_strict,
+        seats,
     } = start;
     // Whatever the facts say, lines are read in the form of the program that runs.
     facts.form = replica.program().form();
@@ -374,15 +387,39 @@ fn begin<T: Timeline>(
     // What is made is handed on with what could not be, so that only one function lets go of all.
     let pages = Pages::new(alloc, texts, seen);
     let clock = clock_over(clock, &keeping, &replica, now);
-    let room = kept_room(alloc, replica, keeping);
+    let (seats, beside) = match seats {
+        Some(options) => match seats_over(alloc, options, &replica, now) {
+            Some((seats, beside)) => (Some(seats), Some(beside)),
+            None => return Err(OutOfMemory),
+        },
+        None => (None, None),
+    };
+    let room = kept_room(alloc, replica, keeping, is_strict, seats);
     let clients = Clients::new(alloc, keys, room, facts);
     with_pages(
-        alloc, clients, labels, pages, program, options, clock, peers, now,
+        alloc, clients, labels, pages, program, options, clock, beside, peers, now,
     )
 }
 
-/// A new room over this replica, that keeps these origins, which it may.
-fn kept_room<T: Timeline>(alloc: Global, replica: Replica<T>, keeping: Keeping) -> Room<T>
+/// Whether the text of seats that are kept is none of these.
+fn has_other_seats(options: &Option<SeatOptions>) -> bool {
+    let Some(options) = options else {
+        return false;
+    };
+    match &options.text {
+        Some(text) => Seats::read(&options.offered, text, 0).is_none(),
+        None => false,
+    }
+}
+
+/// A new room over this replica, that keeps these origins, which it may, and has these seats, if it has some.
+fn kept_room<T: Timeline>(
+    alloc: Global,
+    replica: Replica<T>,
+    keeping: Keeping,
+    is_strict: bool,
+    seats: Option<Seats>,
+) -> Room<T>
     requires { (origin : ℕ) → origin < replica.program.origins → IsTrue (keeps keeping origin) →
         MayBeKept (set_of replica.records) origin }
     ensures seats { result.queues.seats ≡ [] }
@@ -390,6 +427,10 @@ fn kept_room<T: Timeline>(alloc: Global, replica: Replica<T>, keeping: Keeping) 
     ensures keeps { result.keeping ≡ keeping }
 {
     let mut room = Room::new(alloc, replica, MOST_LINES, MOST_ANSWERS);
+    room.set_strict(is_strict);
+    if let Some(seats) = seats {
+        room.set_seats(seats);
+    }
     match room.keep(keeping) {
         Ok(()) => room,
         Err(_) => unreachable!(),
@@ -405,6 +446,7 @@ fn with_pages<T: Timeline>(
     program: Vec<u8>,
     options: Options,
     clock: Option<HostClock>,
+    seats: Option<HostSeats>,
     peers: Vec<PeerAt>,
     now: u64,
 ) -> Result<Begun<T>, OutOfMemory>
@@ -413,7 +455,9 @@ fn with_pages<T: Timeline>(
     let Ok(pages) = pages else {
         return Err(OutOfMemory);
     };
-    let mut machine = Machine::over(alloc, clients, labels, pages, program, options, clock, now);
+    let mut machine = Machine::over(
+        alloc, clients, labels, pages, program, options, clock, seats, now,
+    );
     machine.note_start();
     Ok(Begun { machine, peers })
 }

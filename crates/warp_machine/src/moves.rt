@@ -5,8 +5,11 @@ ghost use Rattle.warp_clients.specs.Client.{Heard};
 ghost use Rattle.warp_clients.specs.Steps as steps;
 ghost use Rattle.warp_machine.specs.Moving.{MayLeave, MayWriteOf, Moved, Stepped, TurnsAway};
 
-use warp_clients::{ClientId, Clients, ClockTold, Input, Unsent, Visits, Worked};
+use warp_clients::{
+    ClientId, Clients, ClockTold, Input, Returned, Seating, Unsent, Visits, Worked,
+};
 use warp_hub::Rights;
+use warp_keep::Keeping;
 use warp_line::Timeline;
 use warp_push::Asked;
 use warp_record::Refusal;
@@ -156,6 +159,27 @@ pub(crate) fn set_clock<T: Timeline>(clients: &mut Clients<T>, told: ClockTold)
     clients.set_clock(Some(told));
 }
 
+/// Events of what the room keeps are taken up to this time from now on, or at any.
+pub(crate) fn take_up_to<T: Timeline>(clients: &mut Clients<T>, last: Option<u64>)
+    ensures { Moved (facts_of T.settled T.refused T.floor T.SLACK) clients.old clients.new }
+{
+    clients.take_up_to(last);
+}
+
+/// Other hosts keep these origins from now on.
+pub(crate) fn leave_to_others<T: Timeline>(clients: &mut Clients<T>, elsewhere: Keeping)
+    ensures { Moved (facts_of T.settled T.refused T.floor T.SLACK) clients.old clients.new }
+{
+    clients.leave_to_others(elsewhere);
+}
+
+/// This client brings what a peer has, from now on; whether there was memory.
+pub(crate) fn add_peer<T: Timeline>(clients: &mut Clients<T>, who: ClientId) -> bool
+    ensures { Moved (facts_of T.settled T.refused T.floor T.SLACK) clients.old clients.new }
+{
+    clients.add_peer(who).is_ok()
+}
+
 /// The tags before this one are closed of what the room keeps. Why not all of them, where that is so.
 pub(crate) fn close<T: Timeline>(clients: &mut Clients<T>, tag: Tag) -> Option<Refusal>
     ensures { Moved (facts_of T.settled T.refused T.floor T.SLACK) clients.old clients.new }
@@ -178,8 +202,39 @@ pub(crate) fn send<T: Timeline>(
 {
     match clients.send(input, asked, most) {
         Err(Unsent::Refused(refusal)) => Some(refusal),
-        Err(Unsent::NotKept) | Err(Unsent::Crowded) | Ok(_) => None,
+        Err(Unsent::NotKept) | Err(Unsent::Crowded) | Err(Unsent::Early) | Ok(_) => None,
     }
+}
+
+/// The same; whether it was taken.
+pub(crate) fn sends<T: Timeline>(
+    clients: &mut Clients<T>,
+    input: Input,
+    asked: Tag,
+    most: u32,
+) -> bool
+    ensures { Moved (facts_of T.settled T.refused T.floor T.SLACK) clients.old clients.new }
+{
+    clients.send(input, asked, most).is_ok()
+}
+
+/// This happens to the seats of the room.
+pub(crate) fn happen<T: Timeline>(clients: &mut Clients<T>, what: &Seating) -> Option<Returned>
+    ensures { Moved (facts_of T.settled T.refused T.floor T.SLACK) clients.old clients.new }
+{
+    clients.happen(what)
+}
+
+/// A client's word on seats is answered by this line, once of a log of this length may be told.
+pub(crate) fn tell_seat<T: Timeline>(
+    clients: &mut Clients<T>,
+    who: ClientId,
+    len: u32,
+    text: Vec<u8>,
+)
+    ensures { Moved (facts_of T.settled T.refused T.floor T.SLACK) clients.old clients.new }
+{
+    clients.tell_seat(who, len, text);
 }
 
 /// Whole lines that tell of a log of this length are pushed to a client; whether they were.

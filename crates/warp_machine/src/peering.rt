@@ -1,6 +1,8 @@
 //! The peers of a host: what comes of their connections, their lines for the room, and its answers to these.
 
-ghost use Rattle.std.specs.Prelude.{◌≡◌, ℕ};
+ghost use Rattle.std.specs.Prelude.{◌≡◌, ◌<◌, ◌||◌, ℕ, Bool, List, false, get_or};
+ghost use Rattle.std.specs.List.{list_any};
+ghost use Rattle.warp_keep.specs.declared.keeping.Keeping.TheVariants as keeping;
 ghost use Rattle.warp_replica.specs.Answered.{facts_of};
 ghost use Rattle.warp_machine.specs.Moving.{HearsOf, IsPassing, MayWriteOf, MovedWith, clients_in};
 ghost use Rattle.warp_machine.specs.Peering.{name_of, peer_in, said_of, wants_of};
@@ -10,6 +12,8 @@ use crate::machine::Machine;
 use crate::moves;
 use crate::operating::Level;
 use warp_clients::{ClientId, Clients};
+use warp_hub::MOST_ORIGINS;
+use warp_keep::Keeping;
 use warp_line::Timeline;
 use warp_service::{Note, Peer, PeerAction};
 
@@ -21,6 +25,8 @@ const MOST_TIMES: u32 = 64;
 pub(crate) struct Followed {
     pub(crate) peer: Peer,
     who: ClientId,
+    /// Which origins it keeps, as it told last.
+    keeps: [bool; MOST_ORIGINS],
     /// Lines of it may be given on, or answers taken.
     is_due: bool,
     /// It may want something.
@@ -33,8 +39,20 @@ impl Followed {
         Followed {
             peer,
             who,
+            keeps: [false; MOST_ORIGINS],
             is_due: true,
             is_wanting: true,
+        }
+    }
+
+    /// Takes up which origins it keeps, where it told that; whether it did.
+    fn learn(&mut self) -> bool {
+        match self.peer.take_keeps() {
+            Some(flags) => {
+                self.keeps = flags;
+                true
+            }
+            None => false,
         }
     }
 
@@ -208,9 +226,21 @@ impl<T: Timeline> Machine<T> {
         if self.is_failing || !self.are_peers_due {
             return;
         }
+        self.learn_keepers();
         for at in 0..self.peers.len() {
             self.go_on(at);
         }
+    }
+
+    /// Takes up which origins peers keep, where one told that: records of these are taken of peers alone from now on.
+    fn learn_keepers(&mut self)
+        ensures { Moved (facts_of T.settled T.refused T.floor T.SLACK) self.old.clients self.new.clients }
+    {
+        if !learn_all(&mut self.peers) {
+            return;
+        }
+        let elsewhere = all_kept(&self.peers);
+        moves::leave_to_others(&mut self.clients, elsewhere);
     }
 
     /// Gives lines of a peer to its client, and takes the answers, where there are any.
@@ -347,6 +377,39 @@ impl<T: Timeline> Machine<T> {
             }
         }
         count
+    }
+}
+
+/// Takes up which origins each of these keeps, where it told that; whether one did.
+fn learn_all(peers: &mut [Followed]) -> bool {
+    let mut has_told = false;
+    for followed in peers.iter_mut() {
+        has_told |= followed.learn();
+    }
+    has_told
+}
+
+/// All origins that these keep.
+fn all_kept(peers: &[Followed]) -> Keeping
+    ensures { (flags : List Bool) × (result ≡ keeping.Origins flags) × ((origin : ℕ) → origin < 64 →
+        get_or flags origin false ≡ list_any (λ followed. get_or followed.keeps origin false) peers.now) }
+{
+    let mut flags = [false; MOST_ORIGINS];
+    for followed in peers {
+        add_kept(&mut flags, &followed.keeps);
+    }
+    Keeping::Origins(flags)
+}
+
+/// These origins as well.
+fn add_kept(flags: &mut [bool; MOST_ORIGINS], kept: &[bool; MOST_ORIGINS])
+    ensures { (origin : ℕ) → origin < 64 →
+        get_or flags.new origin false ≡ (get_or flags.old origin false || get_or kept.now origin false) }
+{
+    for origin in 0..MOST_ORIGINS {
+        if kept[origin] {
+            flags[origin] = true;
+        }
     }
 }
 

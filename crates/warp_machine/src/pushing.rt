@@ -8,7 +8,7 @@ use crate::calls::MOST_UNREAD;
 use crate::machine::Machine;
 use crate::moves;
 use warp_clients::{ClientId, Watched};
-use warp_hub::Subject;
+use warp_hub::{Subject, Watch, Word};
 use warp_line::Timeline;
 use warp_push::{
     Answered, Asked, FROZEN, GONE_SLOW, Given, MOST_TOLD, News, Pushing, behind_lines, skipped_line,
@@ -39,6 +39,17 @@ impl<T: Timeline> Machine<T> {
 
     /// Notes what a client watches from now on. Without memory it is told nothing more.
     fn note_one(&mut self, watched: &Watched)
+        ensures { Moved (facts_of T.settled T.refused T.floor T.SLACK) self.old.clients self.new.clients }
+    {
+        match watched.word {
+            Word::Watch(Watch::Seats) => self.watch_seats(watched.who, true),
+            Word::Unwatch(Subject::Seats) => self.watch_seats(watched.who, false),
+            _ => self.note_other(watched),
+        }
+    }
+
+    /// The same of what is told of the replica.
+    fn note_other(&mut self, watched: &Watched)
         ensures { Moved (facts_of T.settled T.refused T.floor T.SLACK) self.old.clients self.new.clients }
     {
         if !self.watchers.note(watched.who, &watched.word) {
@@ -271,7 +282,7 @@ impl<T: Timeline> Machine<T> {
     }
 
     /// Pushes whole lines to a client. Where too many bytes wait behind it, it is told so at last, and nothing more.
-    fn push(&mut self, who: ClientId, len: u32, text: &[u8])
+    pub(crate) fn push(&mut self, who: ClientId, len: u32, text: &[u8])
         ensures { Moved (facts_of T.settled T.refused T.floor T.SLACK) self.old.clients self.new.clients }
     {
         if text.is_empty() || !moves::push(&mut self.clients, who, len, text) {

@@ -1,5 +1,6 @@
 //! What a host is made of.
 
+use crate::seating::SeatOptions;
 use crate::ticking::ClockOptions;
 use std::hash::RandomState;
 pub use warp_events::JournalSeen;
@@ -58,4 +59,8 @@ pub struct Start<T: Timeline> {
     pub keeping: Keeping,
     /// The clock by which it keeps them; without one it announces nothing for them.
     pub clock: Option<ClockOptions>,
+    /// Whether it refuses its own clients what would break an announcement.
+    pub is_strict: bool,
+    /// The seats of what it keeps, if it has some.
+    pub seats: Option<SeatOptions>,
 }

@@ -1,6 +1,6 @@
 //! The clock of a host that keeps origins: it goes on in each turn, an input gets its ticks, and what is kept is closed
 //! behind what was heard and answered, so that outputs become final by themselves.
-ghost use Rattle.std.specs.Prelude.{◌≡◌, ◌≤◌, ◌<◌, ◌+◌, ℕ, IfSome, IsTrue};
+ghost use Rattle.std.specs.Prelude.{◌≡◌, ◌≤◌, ◌<◌, ◌+◌, ℕ, IfSome, IsTrue, option_map};
 ghost use Rattle.warp_tag.specs.Moment.{Moment};
 ghost use Rattle.warp_table.specs.Closed.{ClosesAt};
 ghost use Rattle.warp_table.specs.Records.{set_of};
@@ -27,7 +27,7 @@ use warp_tag::Tag;
 const MOST_TICKS: u32 = 64;
 
 /// So many events of an origin at most are there at a tick, so that the host's own has a place.
-const ANY: u32 = 256;
+pub(crate) const ANY: u32 = 256;
 
 /// For so long at most it is waited for lines that were heard to be answered, before what is kept is closed.
 const LONGEST_WAIT: u64 = SECOND;
@@ -53,8 +53,12 @@ pub struct ClockOptions {
     pub grace: u32,
     /// What it does behind a pause.
     pub pause: Pause,
-    /// The input that gets its ticks while a client is there, if one does.
+    /// The input that gets its ticks, if one does.
     pub tick: Option<TickInput>,
+    /// Whether it gets them, and what is kept is closed, also while no client is there.
+    pub is_always: bool,
+    /// So many ticks ahead at most events of what is kept are taken; at any where no number is given.
+    pub ahead: Option<u32>,
 }
 
 /// Where a clock begins over a log.
@@ -75,6 +79,8 @@ pub(crate) struct HostClock {
     closing: Closing,
     hertz: u32,
     input: Option<TickInput>,
+    is_always: bool,
+    ahead: Option<u32>,
     /// The next tick that is to be sent.
     next: u64,
     /// Since when a round that is due waits for lines to be answered.
@@ -102,6 +108,8 @@ impl HostClock {
             grace,
             pause,
             tick,
+            is_always,
+            ahead,
         } = options;
         let Beginning {
             first,
@@ -124,6 +132,8 @@ impl HostClock {
             closing: Closing::new(apart(is_joint, kept), closed),
             hertz: hertz.number(),
             input: tick,
+            is_always,
+            ahead,
             waits: None,
             is_alone: true,
             stood: 0,
@@ -145,6 +155,14 @@ impl HostClock {
             milliseconds: self.clock.milliseconds(),
             hertz: self.hertz,
         }
+    }
+
+    /// Up to which time events are taken: so many ticks past the one that it is; at any where there is no bound.
+    fn last(&self) -> Option<u64>
+        ensures { result ≡ option_map (λ ahead. tick_of self.now.clock + ahead) self.now.ahead }
+    {
+        let ahead = self.ahead?;
+        Some(self.clock.tick() + u64::from(ahead))
     }
 
     /// When it goes on.
@@ -350,7 +368,7 @@ impl<T: Timeline> Machine<T> {
         self.send_ticks();
     }
 
-    /// The clock goes on to this moment, and clients are told of it.
+    /// The clock goes on to this moment, clients are told of it, and events are taken so far ahead of it.
     pub(crate) fn tell_clock(&mut self)
         ensures moved { Moved (facts_of T.settled T.refused T.floor T.SLACK) self.old.clients self.new.clients }
         ensures conns { self.new.conns ≡ self.old.conns }
@@ -360,7 +378,9 @@ impl<T: Timeline> Machine<T> {
         };
         clock.turn(self.now);
         let told = clock.told();
+        let last = clock.last();
         moves::set_clock(&mut self.clients, told);
+        moves::take_up_to(&mut self.clients, last);
     }
 
     /// Closes what is due where clients are there, and none was at the last turn.
@@ -411,10 +431,27 @@ impl<T: Timeline> Machine<T> {
         None
     }
 
-    /// Whether the host says anything for what it keeps: a client is there, the journal can be written, and it does not end.
-    fn may_say(&self) -> bool {
+    /// Whether the host says anything for what it keeps: a client is there, or its world runs by itself; the journal can be
+    /// written, and it does not end.
+    pub(crate) fn may_say(&self) -> bool {
         let is_ending = self.is_over || self.ending.is_some();
-        self.conns.known() > 0 && !self.is_failing && !is_ending
+        (self.conns.known() > 0 || self.runs_alone()) && !self.is_failing && !is_ending
+    }
+
+    /// Whether ticks are sent, and what is kept is closed, while no client is there.
+    fn runs_alone(&self) -> bool {
+        match &self.clock {
+            Some(clock) => clock.is_always,
+            None => false,
+        }
+    }
+
+    /// The first tag of the tick that it is; that of tick 0 without a clock.
+    pub(crate) fn tag_now(&self) -> Tag {
+        match &self.clock {
+            Some(clock) => Tag::beginning_of(clock.clock.tick()),
+            None => Tag::beginning_of(0),
+        }
     }
 
     /// Sends the event of a tick.

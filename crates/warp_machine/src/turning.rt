@@ -52,8 +52,10 @@ impl<T: Timeline> Machine<T> {
         self.now = now;
         self.has_more = false;
         self.turn_clock();
+        self.turn_seats();
         self.hear_all();
         self.note_watched();
+        self.answer_seats();
         self.stopwatch.begin(self.clients.counts().lines, now);
     }
 
@@ -64,8 +66,10 @@ impl<T: Timeline> Machine<T> {
         let len = self.clients.room().len();
         moves::hand(&mut self.clients);
         self.note_watched();
+        self.answer_seats();
         self.hand_steps();
         self.tell_if_due(worked);
+        self.push_seats();
         self.go_on_with_peers();
         self.compare_peers();
         self.look_at_changes();

@@ -5,7 +5,7 @@ use http::HeaderValue;
 /// What the page may do in a browser: its own style and script alone, told by their SHA-256, and connect to its host.
 const POLICY: &str = "\
 default-src 'none'; \
-script-src 'sha256-GbTAgYt/zZ2oU9AM1uQPu3vrlK/QUcJq1w2Uc9mEWbY='; \
+script-src 'sha256-i5w0tpVmukbEgWRCeo22ZPw35gJAxLLqYgS+ZBx8ccY='; \
 style-src 'sha256-d/a0rCczhXpjFCZ7Ap5v6YD9VJ6wfFrH9/NsAtHdbTQ='; \
 connect-src 'self'; \
 img-src data:; \
@@ -36,6 +36,7 @@ const PAGE: &[u8] = br##"<!doctype html>
 <div><dt>Outputs</dt><dd id="counts">-</dd></div>
 <div data-of-clock hidden><dt>Clock</dt><dd id="clock">-</dd></div>
 <div data-of-clock hidden><dt>Kept</dt><dd id="kept">-</dd></div>
+<div hidden><dt>Seats</dt><dd id="seats">-</dd></div>
 <div data-of-clock hidden><dt>Refused</dt><dd id="refused">-</dd></div>
 </dl>
 <table>
@@ -142,6 +143,9 @@ it was, the replica goes on from there) or more (timers and actions may lie behi
 16:"late: the host has announced that nothing more comes before",
 17:"another event has this name",
 18:"crowded: this tick has as many inputs of the origin as the host takes",
+19:"early: the host takes no event so far ahead of its clock",
+20:"no seat: none is free, the secret is none, or this client does not sit there",
+21:"that would break an announcement",
 }
 const FIRST_PAUSE=100
 const LONGEST_PAUSE=5_000
@@ -272,10 +276,10 @@ throw new SyntaxError("another text is wanted")
 const textOf = matching(/./)
 const [MOST_VARS,MOST_PORTS,MOST_PENDING,MOST_ARRAYS,MOST_VALUES,MOST_CELLS]=[1_024,256,256,256,66_560,4_096]
 const PARTS={
-log:within(1e7),place:within(1e7,1),events:within(1e7),withdrawn:within(1e7),rows:within(2 ** 20),watched:within(7),
+log:within(1e7),place:within(1e7,1),events:within(1e7),withdrawn:within(1e7),rows:within(2 ** 20),watched:within(8),
 origin:within(63),input:within(255),output:within(255),time:within(15_625_000),micro:within(255),index:within(2 ** 32 - 1),
 count:within(Number.MAX_SAFE_INTEGER),number:within(99,1),value:integer,frozen:flag,broken:flag,
-hertz: within(1_000, 1), version: within(99, 1), fingerprint: matching(/^[0-9a-f]{64}$/), digits: matching(/^[0-9a-f]{32}$/),
+hertz: within(1_000, 1), version: within(99, 1), fingerprint: matching(/^[0-9a-f]{64}$/), digits: matching(/^[0-9a-f]{32}$/), secret: matching(/^[0-9a-f]{32}$/),
 }
 function fields(form){
 const parts = (form.match(/\S+/g) ?? []).map(it => it.split(":"))
@@ -316,6 +320,12 @@ inputs:listOf(inputs,MOST_PORTS,([origin,name])=>[PARTS.origin(origin),textOf(na
 outputs:listOf(outputs,MOST_PORTS,textOf),
 })
 }
+const SEAT=fields("origin secret")
+const BACK=fields("origin secret count last:log")
+const SITS=([origin,state])=>{
+if(!["free","taken","away"].includes(state))throw new SyntaxError("a state is wanted")
+return{origin:PARTS.origin(origin),state}
+}
 const READERS={
 taken:words=>({...PLACE(words),isNew:true}),
 known:words=>({...PLACE(words),isNew:false}),
@@ -351,10 +361,13 @@ digest:fields("log digits"),
 keeps:words=>(words.length===1&&words[0]==="all"?null:listOf(words,64,PARTS.origin)),
 clock:fields("tick:count milliseconds:count hertz"),
 sent:fields("place time micro"),
+seat:words=>(words.length===2?{...SEAT(words),count:0,last:0}:BACK(words)),
+left:fields("origin"),
+freed:fields("origin"),
 }
 const ANSWERS={
 event:"taken known",withdraw:"taken known",announce:"taken known",collect:"collected",watch:"watching",unwatch:"watching",
-token:"may",send:"sent",row:"row none",output:"output none",release:"release none",log:"log none",
+token:"may",send:"sent",join:"seat",back:"seat",leave:"left",free:"freed",row:"row none",output:"output none",release:"release none",log:"log none",
 }
 function replyOf(text,line){
 const [word,...words]=text.split(" ")
@@ -397,10 +410,14 @@ breach:([log,...origins])=>{
 const jointly=origins.at(-1)==="*"
 return{...LOG([log]),origins:listOf(jointly?origins.slice(0,-1):origins,64,PARTS.origin),jointly}
 },
+seats:words=>{
+if(words.length % 2)throw new SyntaxError("each seat has a state")
+return listOf(Array.from({ length: words.length / 2 }, (_, at) => words.slice(2 * at, 2 * at + 2)), 64, SITS)
+},
 step:words=>executedOf(words.join(" ")),
 skipped:fields("skipped:count"),
 }
-const STATES=new Set(["vars","cells","horizon","breach"])
+const STATES=new Set(["vars","cells","horizon","breach","seats"])
 const SUBJECT_OF={frozen:"released",step:"steps",skipped:"steps"}
 const SUBJECTS=[...new Set(Object.keys(PUSHES).map(it=>SUBJECT_OF[it]??it))]
 const typed=values=>
@@ -467,7 +484,7 @@ constructor(line,watch=null){
 this.line=line
 this.watch=watch
 this.isSent=false
-this.isOnce=line.startsWith("send ")
+this.isOnce = /^(send |join$|leave$)/.test(line)
 this.answer=new Promise((resolve,reject)=>Object.assign(this,{resolve,reject}))
 this.answer.catch(()=>{})
 }
@@ -494,6 +511,8 @@ class Client{
 #fingerprint
 #reopened=new Set()
 vars={}
+seats=[]
+seat=null
 names=new Names()
 state="connecting"
 onstate=null
@@ -554,13 +573,22 @@ const asked=this.#asked.take()
 const begun=new Set(asked.map(it=>it.watch))
 const missing=[...this.#watches.values()].filter(it=>!begun.has(it)).map(it=>new Asked(it.line))
 for(const it of asked)if(it.watch)it.line=it.watch.line
-const all=[...missing,...asked]
+const back=this.seat?[this.#backAgain()]:[]
+const all=[...back,...missing,...asked.filter(it=>!it.isBack)]
 this.#asked=new Queue(all)
 this.#isOpened=true
 this.#send(all)
 this.#turn("open")
 this.#isReady(this)
 if(this.connections>1)for(const callback of this.#reopened)callBack(callback)
+}
+#backAgain(){
+const asked = new Asked(`back ${this.seat.secret}`)
+asked.isBack=true
+asked.answer.catch(error=>{
+if(error instanceof Refused)this.seat=null
+})
+return asked
 }
 #send(asked){
 let text=""
@@ -663,6 +691,7 @@ if(!Object.hasOwn(PUSHES,kind))return
 const value=this.#read(kind,words,text)
 if(!value)return
 if(kind==="vars")value.values.forEach((it,at)=>(this.vars[this.names.told[at]??at]=it))
+if(kind==="seats")this.seats=value
 this.#hasBrought||=kind==="log"||kind==="released"
 const watch=this.#watches.get(SUBJECT_OF[kind]??kind)
 if(!watch)return
@@ -695,6 +724,10 @@ return this.ask(`send ${this.names.input(input)} ${words}`)
 async keeps(){
 await this.ready
 return(await this.ask("keeps"))??Array.from({length:this.names.origins},(_,at)=>at)
+}
+async join(){
+const{origin,secret}=await this.ask("join")
+return(this.seat={origin,secret})
 }
 outputs(){
 return this.ask("outputs")
@@ -1187,7 +1220,9 @@ const board=new Board(at("cells"),at("colours"))
 const MOST_WATCHED=4096
 const EVERYBODY="*"
 const limits={log:"",origins:0}
-const TOLD_OF = { 15: "not for the client to say", 16: "late", 17: "under another event's name", 18: "crowded" }
+const TOLD_OF={
+15: "not for the client to say", 16: "late", 17: "under another event's name", 18: "crowded", 19: "too far ahead", 20: "without a seat", 21: "breaking an announcement",
+}
 let client
 let token
 let program
@@ -1197,6 +1232,7 @@ let cells=null
 let kept=[]
 let clock=null
 let refusals=""
+let seats=[]
 let isDrawn=false
 let isAsking=false
 let mayTellLate=true
@@ -1244,6 +1280,8 @@ put("counts", `${released.added} released${frozen ? ", frozen: an origin broke i
 put("clock", clock ? `tick ${clock.tick}, ${clock.hertz} a second` : "-")
 put("kept", `${keptText()}: the host announces for ${kept.length === 1 ? "it" : "them"} by its clock`)
 put("refused",refusals||"nothing so far")
+put("seats", seats.map(it => `origin ${it.origin} ${it.state}`).join(", "))
+at("seats").parentElement.hidden=!seats.length
 }
 function keptText(){
 if(kept.length===originsNow().length)return "all origins"
@@ -1357,6 +1395,7 @@ released:it=>replica.takeReleased(it),
 vars:it=>replica.takeVars(it),
 horizon:it=>replica.takeHorizon(it),
 breach:it=>replica.takeBreach(it),
+seats:it=>(seats=it),
 }
 function connect(){
 if(client)client.onstate=null
@@ -1381,6 +1420,7 @@ if(state==="connecting")for(const watch of watches.splice(0))watch.stop().catch(
 }
 async function begin(){
 replica.clear()
+seats=[]
 watches=Object.keys(TAKES).map(what=>client.watch(what,push=>{
 TAKES[what](push)
 askOpen()

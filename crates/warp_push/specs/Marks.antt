@@ -199,6 +199,7 @@ subject_of (watch.Cells first count) = subject.Cells
 subject_of watch.Horizon = subject.Horizon
 subject_of watch.Breach = subject.Breach
 subject_of watch.Steps = subject.Steps
+subject_of watch.Seats = subject.Seats
 
 -- a watcher of pages that was pushed none, from here on
 abbrev pub begun : ℕ → Option Cursor → Option Cursor
@@ -214,6 +215,7 @@ marks_with (watch.Cells first count) m =
 marks_with watch.Horizon m = record m { horizon = Some 0 }
 marks_with watch.Breach m = record m { breach = Some 0 }
 marks_with watch.Steps m = record m { steps = Some 0 }
+marks_with watch.Seats m = m
 
 -- it watches this no longer
 abbrev pub marks_without : Subject → Marks → Marks
@@ -224,6 +226,7 @@ marks_without subject.Cells m = record m { cells = None }
 marks_without subject.Horizon m = record m { horizon = None }
 marks_without subject.Breach m = record m { breach = None }
 marks_without subject.Steps m = record m { steps = None }
+marks_without subject.Seats m = m
 
 -- where it goes on
 abbrev pub cursor_in : Subject → Marks → Option Cursor
@@ -234,6 +237,7 @@ cursor_in subject.Cells m = None
 cursor_in subject.Horizon m = None
 cursor_in subject.Breach m = None
 cursor_in subject.Steps m = None
+cursor_in subject.Seats m = None
 
 -- a page of its own is on its way, or does not come
 abbrev pub marks_asked : Subject → Bool → Marks → Marks
@@ -244,6 +248,7 @@ marks_asked subject.Cells asked m = m
 marks_asked subject.Horizon asked m = m
 marks_asked subject.Breach asked m = m
 marks_asked subject.Steps asked m = m
+marks_asked subject.Seats asked m = m
 
 -- what it gets of these news of a thing, with so many bytes unread
 abbrev pub given_to : Subject → News → ℕ → Marks → Option Given
@@ -254,6 +259,7 @@ given_to subject.Cells n unread m = range_given n unread m.cells
 given_to subject.Horizon n unread m = latest_given n unread m.horizon
 given_to subject.Breach n unread m = latest_given n unread m.breach
 given_to subject.Steps n unread m = left_given n unread m.steps
+given_to subject.Seats n unread m = None
 
 -- and how far it was pushed then
 abbrev pub marks_behind : Subject → News → ℕ → Marks → Marks
@@ -264,3 +270,4 @@ marks_behind subject.Cells n unread m = record m { cells = range_behind n unread
 marks_behind subject.Horizon n unread m = record m { horizon = latest_behind n unread m.horizon }
 marks_behind subject.Breach n unread m = record m { breach = latest_behind n unread m.breach }
 marks_behind subject.Steps n unread m = record m { steps = left_behind n unread m.steps }
+marks_behind subject.Seats n unread m = m

@@ -85,6 +85,7 @@ Notes who word.Digest old new = new ≡ old
 Notes who word.Keeps old new = new ≡ old
 Notes who word.Clock old new = new ≡ old
 Notes who (word.Send sent) old new = new ≡ old
+Notes who (word.Seat said) old new = new ≡ old
 Notes who (word.Release number) old new = new ≡ old
 Notes who (word.Counts origin) old new = new ≡ old
 Notes who (word.Reached origin) old new = new ≡ old

@@ -178,6 +178,7 @@ StandsBy who (watch.Cells first count) done seats cells =
 StandsBy who watch.Horizon done seats cells = Unit {0}
 StandsBy who watch.Breach done seats cells = Unit {0}
 StandsBy who watch.Steps done seats cells = Unit {0}
+StandsBy who watch.Seats done seats cells = Unit {0}
 
 -- the same of a word
 abbrev pub Stands : ClientId → Word → Bool → List Seat → List Watched → Type 0
@@ -192,6 +193,7 @@ Stands who word.Digest done seats cells = Unit {0}
 Stands who word.Keeps done seats cells = Unit {0}
 Stands who word.Clock done seats cells = Unit {0}
 Stands who (word.Send sent) done seats cells = Unit {0}
+Stands who (word.Seat said) done seats cells = Unit {0}
 Stands who (word.Release number) done seats cells = Unit {0}
 Stands who (word.Counts origin) done seats cells = Unit {0}
 Stands who (word.Reached origin) done seats cells = Unit {0}
@@ -208,6 +210,7 @@ CellsBegin who (watch.Cells first count) done seats old new =
 CellsBegin who watch.Horizon done seats old new = new ≡ old
 CellsBegin who watch.Breach done seats old new = new ≡ old
 CellsBegin who watch.Steps done seats old new = new ≡ old
+CellsBegin who watch.Seats done seats old new = new ≡ old
 
 -- what is kept of ranges where a client watches this no longer
 abbrev pub cells_without : ClientId → Subject → List Seat → List Watched → List Watched
@@ -218,6 +221,7 @@ cells_without who subject.Cells seats cells = left_by who seats cells
 cells_without who subject.Horizon seats cells = cells
 cells_without who subject.Breach seats cells = cells
 cells_without who subject.Steps seats cells = cells
+cells_without who subject.Seats seats cells = cells
 
 -- the same of a word
 abbrev pub NotesCells : ClientId → Word → Bool → List Seat → List Watched → List Watched → Type 0
@@ -232,6 +236,7 @@ NotesCells who word.Digest done seats old new = new ≡ old
 NotesCells who word.Keeps done seats old new = new ≡ old
 NotesCells who word.Clock done seats old new = new ≡ old
 NotesCells who (word.Send sent) done seats old new = new ≡ old
+NotesCells who (word.Seat said) done seats old new = new ≡ old
 NotesCells who (word.Release number) done seats old new = new ≡ old
 NotesCells who (word.Counts origin) done seats old new = new ≡ old
 NotesCells who (word.Reached origin) done seats old new = new ≡ old
@@ -249,6 +254,7 @@ may_lack word.Digest = false
 may_lack word.Keeps = false
 may_lack word.Clock = false
 may_lack (word.Send sent) = false
+may_lack (word.Seat said) = false
 may_lack (word.Release number) = false
 may_lack (word.Counts origin) = false
 may_lack (word.Reached origin) = false

@@ -421,6 +421,7 @@ pub(crate) fn subject_of(watch: Watch) -> Subject
         Watch::Horizon => Subject::Horizon,
         Watch::Breach => Subject::Breach,
         Watch::Steps => Subject::Steps,
+        Watch::Seats => Subject::Seats,
     }
 }
 
@@ -444,6 +445,8 @@ impl Marks {
             Watch::Horizon => self.horizon = Some(0),
             Watch::Breach => self.breach = Some(0),
             Watch::Steps => self.steps = Some(0),
+            // Who sits where is told by who has the seats.
+            Watch::Seats => {}
         }
     }
 
@@ -459,6 +462,7 @@ impl Marks {
             Subject::Horizon => self.horizon = None,
             Subject::Breach => self.breach = None,
             Subject::Steps => self.steps = None,
+            Subject::Seats => {}
         }
     }
 
@@ -477,8 +481,12 @@ impl Marks {
         match subject {
             Subject::Log => self.log,
             Subject::Released => self.released,
-            Subject::Vars | Subject::Cells | Subject::Horizon | Subject::Breach | Subject::Steps =>
-                None,
+            Subject::Vars
+            | Subject::Cells
+            | Subject::Horizon
+            | Subject::Breach
+            | Subject::Steps
+            | Subject::Seats => None,
         }
     }
 
@@ -490,8 +498,12 @@ impl Marks {
         match subject {
             Subject::Log => ask(&mut self.log, is_asked),
             Subject::Released => ask(&mut self.released, is_asked),
-            Subject::Vars | Subject::Cells | Subject::Horizon | Subject::Breach | Subject::Steps =>
-                {}
+            Subject::Vars
+            | Subject::Cells
+            | Subject::Horizon
+            | Subject::Breach
+            | Subject::Steps
+            | Subject::Seats => {}
         }
     }
 
@@ -531,6 +543,7 @@ impl Marks {
             Subject::Horizon => take_value(&mut self.horizon, news, unread),
             Subject::Breach => take_value(&mut self.breach, news, unread),
             Subject::Steps => take_steps(&mut self.steps, news, unread),
+            Subject::Seats => None,
         }
     }
 }

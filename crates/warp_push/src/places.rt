@@ -40,7 +40,7 @@ impl Enlisted {
             Subject::Log => self.log,
             Subject::Released => self.released,
             Subject::Vars => self.vars,
-            Subject::Cells => false,
+            Subject::Cells | Subject::Seats => false,
             Subject::Horizon => self.horizon,
             Subject::Breach => self.breach,
             Subject::Steps => self.steps,
@@ -53,7 +53,7 @@ impl Enlisted {
             Subject::Log => self.log = stands,
             Subject::Released => self.released = stands,
             Subject::Vars => self.vars = stands,
-            Subject::Cells => {}
+            Subject::Cells | Subject::Seats => {}
             Subject::Horizon => self.horizon = stands,
             Subject::Breach => self.breach = stands,
             Subject::Steps => self.steps = stands,

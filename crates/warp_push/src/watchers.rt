@@ -191,6 +191,7 @@ impl Watchers {
             | Word::Keeps
             | Word::Clock
             | Word::Send(_)
+            | Word::Seat(_)
             | Word::Release(_)
             | Word::Counts(_)
             | Word::Reached(_) => true,
@@ -211,7 +212,8 @@ impl Watchers {
             | Watch::Vars
             | Watch::Horizon
             | Watch::Breach
-            | Watch::Steps => self.begin_listed(who, watch),
+            | Watch::Steps
+            | Watch::Seats => self.begin_listed(who, watch),
         }
     }
 
@@ -263,7 +265,8 @@ impl Watchers {
             | Subject::Vars
             | Subject::Horizon
             | Subject::Breach
-            | Subject::Steps => {}
+            | Subject::Steps
+            | Subject::Seats => {}
         }
     }
 

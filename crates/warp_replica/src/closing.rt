@@ -4,6 +4,7 @@
 //! changes one.
 ghost use Rattle.std.specs.Prelude.{◌≡◌, ◌↔◌, None, Some, Contains, IfNone, IfOk, IfSome, IsTrue, MatchResult};
 ghost use Rattle.warp_table.specs.Announced.{IsBroken};
+ghost use Rattle.warp_table.specs.Breaking.{WouldBreak};
 ghost use Rattle.warp_table.specs.Check.{refusal_of};
 ghost use Rattle.warp_table.specs.Closed.{AreCountsBefore, AreJointCountsBefore, ClosesAt, IsDoubled};
 ghost use Rattle.warp_table.specs.Joint.{IsBrokenJointly};
@@ -11,7 +12,7 @@ ghost use Rattle.warp_table.specs.Log.{IsAt};
 ghost use Rattle.warp_table.specs.Names.{Tells};
 ghost use Rattle.warp_table.specs.Records.{set_of};
 
-use crate::replica::Replica;
+use crate::replica::{Replica, record_in_range};
 use warp_line::Timeline;
 use warp_record::{Record, Refusal};
 use warp_table::{CountsBefore, Table};
@@ -59,6 +60,18 @@ impl<T: Timeline> Replica<T> {
             (λ counts. AreJointCountsBefore (set_of self.old.records) tag counts.events counts.withdrawn) }
     {
         self.table.joint_counts_before(tag)
+    }
+
+    /// Whether the record, against which the program has no reason, would break an announcement that is not broken without it,
+    /// its origin's own or a joint one. The replica stays as it is, also on an `Err`.
+    pub fn would_break(&mut self, record: &Record) -> Result<bool, OutOfMemory>
+        requires { refusal_of self.old.program «record».now ≡ None }
+        ensures same { self.new ≡ self.old }
+        ensures breaks { IfOk result (λ breaks. IsTrue breaks ↔ WouldBreak self.old.records «record».now) }
+    {
+        // The table looks at its origin among those of the widest form.
+        record_in_range(&self.program, record);
+        self.table.would_break(record)
     }
 
     /// Whether a name of the origin has two payloads.

@@ -659,7 +659,7 @@ fn output_in_range(output: &Out)
 }
 
 /// That a record against which the program has no reason is in range. It does nothing.
-fn record_in_range(program: &Program, record: &Record)
+pub(crate) fn record_in_range(program: &Program, record: &Record)
     requires { refusal_of program.now «record».now ≡ None }
     ensures { IsRecord widest «record».now }
 {

@@ -9,7 +9,7 @@ use Rattle.warp_room.specs.declared.answers.AnsweredLine.{AnsweredLine}
 use Rattle.warp_room.specs.Queues.{GetsSeat, QueuesState, SeatState, lines_in, lines_of, new_seat}
 use Rattle.warp_room.specs.Room.{RoomState, is_client, without}
 use Rattle.warp_room.specs.Steps.{AreFew, RoomDoes, RoomRuns, RoomStep}
-use Rattle.warp_room.specs.Steps.{Came, Left, Heard, Executed, Answered, Handed, Said}
+use Rattle.warp_room.specs.Steps.{Came, Left, Heard, Executed, Answered, Handed, Ruled, Said}
 use Rattle.std.specs.Prelude.{cond, not}
 
 module _ (most : ℕ) where
@@ -107,6 +107,10 @@ module _ {T : Type 0} (facts : TimelineFacts T) where
       few_of r r' (ap (λ (x : RoomState T). x.most_lines) d.leaves) (ap (λ (x : RoomState T). x.most_answers) d.leaves)
       (subst (λ (q : QueuesState). AllFew r.most_lines q.seats) (sym (ap (λ (x : RoomState T). x.queues) d.leaves)) few.0)
       (subst (λ (made : List AnsweredLine). length made ≤ r.most_answers) (sym (ap (λ (x : RoomState T). x.made) d.leaves)) few.1)
+  few_step (Ruled rules) r r' few d =
+      few_of r r' (ap (λ (x : RoomState T). x.most_lines) d) (ap (λ (x : RoomState T). x.most_answers) d)
+      (subst (λ (q : QueuesState). AllFew r.most_lines q.seats) (sym (ap (λ (x : RoomState T). x.queues) d)) few.0)
+      (subst (λ (made : List AnsweredLine). length made ≤ r.most_answers) (sym (ap (λ (x : RoomState T). x.made) d)) few.1)
 
   pub few_kept : (steps : List RoomStep) (r r' : RoomState T) → RoomRuns facts steps r r' → AreFew r → AreFew r'
   few_kept [] r r' runs few = subst (λ (x : RoomState T). AreFew x) (sym runs) few

@@ -7,7 +7,7 @@ use Rattle.warp_record.specs.declared.record.Record.{Record}
 use Rattle.warp_record.specs.declared.reply.Reply.{Reply}
 use Rattle.warp_record.specs.declared.reply.Refusal.{Refusal}
 use Rattle.warp_keep.specs.Kept.{GoesOn}
-use Rattle.warp_keep.proofs.Steps.{closes_jointly_keep, closes_keep, sends_keep, takes_keep}
+use Rattle.warp_keep.proofs.Steps.{brought_keep, closes_jointly_keep, closes_keep, sends_keep, takes_keep}
 use Rattle.warp_replica.specs.Answered.{AnswersLine, TimelineFacts}
 use Rattle.warp_replica.specs.Gives.{Gives, Takes}
 use Rattle.warp_replica.specs.Replica.{ReplicaState}
@@ -15,7 +15,9 @@ use Rattle.warp_replica.specs.declared.answer.Answer.{Answer}
 use Rattle.warp_replica.specs.declared.taking.Took.{Took}
 use Rattle.warp_room.specs.declared.answers.Outcome.{Outcome}
 use Rattle.warp_room.specs.declared.answers.Outcome.TheVariants as outcome
-use Rattle.warp_room.specs.Gate.{ComesTo, IsLeft}
+use Rattle.warp_room.specs.Gate.{ComesTo, IsLeft, IsRecordLeft}
+use Rattle.warp_room.specs.Rules.{RulesState}
+use Rattle.warp_watch.specs.declared.client_id.ClientId.{ClientId}
 use Rattle.warp_room.specs.Room.{AreKept}
 use Rattle.warp_room.specs.Steps.{MaySay}
 
@@ -27,11 +29,16 @@ module _ (keeps : ℕ → Bool) (first : List Record) (P : Program) (log log' : 
   same_log : log' ≡ log → GoesOn keeps first log'
   same_log same = subst (λ (l : List Record). GoesOn keeps first l) (sym same) on
 
-  left_keeps : (said : Line) (reply : Reply) → IsLeft keeps P log said → Gives P log said reply log' → GoesOn keeps first log'
-  left_keeps (Put said) reply left g = takes_keep keeps first P log said g.0 log' on left g.1
-  left_keeps (Ask asked) reply left g = same_log g.1
-  left_keeps Collect reply left g = same_log g.1
-  left_keeps (Look look) reply left g = same_log g.1
+  record_keeps : (rules : RulesState) (who : ClientId) (said : Record) (result : Result Took Refusal) → IsRecordLeft keeps rules who P log said → Takes P log said result log'
+      → GoesOn keeps first log'
+  record_keeps rules who said result (inr own) t = takes_keep keeps first P log said result log' on own.1 t
+  record_keeps rules who said result (inl brought) t = brought_keep keeps first P log said result log' on brought.1 t
+
+  left_keeps : (rules : RulesState) (who : ClientId) (said : Line) (reply : Reply) → IsLeft keeps rules who P log said → Gives P log said reply log' → GoesOn keeps first log'
+  left_keeps rules who (Put said) reply left g = record_keeps rules who said g.0 left g.1
+  left_keeps rules who (Ask asked) reply left g = same_log g.1
+  left_keeps rules who Collect reply left g = same_log g.1
+  left_keeps rules who (Look look) reply left g = same_log g.1
 
   own_takes : (one : Record) (result : Result Took Refusal) → MaySay keeps P log one → Takes P log one result log' → GoesOn keeps first log'
   own_takes one result may t = elim may.1 [
@@ -44,14 +51,19 @@ module _ (keeps : ℕ → Bool) (first : List Record) (P : Program) (log log' : 
     ]
   ]
 
-module _ {T : Type 0} (keeps : ℕ → Bool) (facts : TimelineFacts T) (r r' : ReplicaState T) where
+module _ {T : Type 0} (keeps : ℕ → Bool) (rules : RulesState) (who : ClientId) (facts : TimelineFacts T) (r r' : ReplicaState T) where
   pub line_goes_on : (first : List Record) (said : Line) (len : ℕ) (told : Outcome) → GoesOn keeps first r.records
-      → ComesTo keeps facts r said len told r' → GoesOn keeps first r'.records
-  line_goes_on first said len (outcome.Replied reply) on c = left_keeps keeps first r.program r.records r'.records on said reply c.0 c.1.given.gives
+      → ComesTo keeps rules who facts r said len told r' → GoesOn keeps first r'.records
+  line_goes_on first said len (outcome.Replied reply) on c = left_keeps keeps first r.program r.records r'.records on rules who said reply c.0 c.1.given.gives
   line_goes_on first said len outcome.Kept on c = same_log keeps first r.program r.records r'.records on (ap (λ (x : ReplicaState T). x.records) c.2)
   line_goes_on first said len outcome.Late on c = same_log keeps first r.program r.records r'.records on (ap (λ (x : ReplicaState T). x.records) c.2)
   line_goes_on first said len outcome.Differs on c = same_log keeps first r.program r.records r'.records on (ap (λ (x : ReplicaState T). x.records) c.2)
+  line_goes_on first said len outcome.Early on c = same_log keeps first r.program r.records r'.records on (ap (λ (x : ReplicaState T). x.records) c.2)
+  line_goes_on first said len outcome.NoSeat on c = same_log keeps first r.program r.records r'.records on (ap (λ (x : ReplicaState T). x.records) c.2)
+  line_goes_on first said len outcome.Breaks on c = same_log keeps first r.program r.records r'.records on (ap (λ (x : ReplicaState T). x.records) c.2)
+  line_goes_on first said len outcome.Unjudged on c = same_log keeps first r.program r.records r'.records on (ap (λ (x : ReplicaState T). x.records) c.2)
 
+module _ {T : Type 0} (keeps : ℕ → Bool) (facts : TimelineFacts T) (r r' : ReplicaState T) where
   pub own_goes_on : (first : List Record) (one : Record) (answer : Answer) → GoesOn keeps first r.records
       → MaySay keeps r.program r.records one → AnswersLine facts r (Put one) answer r' → GoesOn keeps first r'.records
   own_goes_on first one answer on may a =

@@ -8,7 +8,7 @@ use Rattle.warp_room.specs.declared.answers.AnsweredLine.{AnsweredLine}
 use Rattle.warp_room.specs.Queues.{GetsSeat, QueuesState, SeatState, lines_of, new_seat}
 use Rattle.warp_room.specs.Room.{RoomState, is_client, of_client, open_lines, without}
 use Rattle.warp_room.specs.Steps.{AreOlder, RoomDoes, RoomRuns, RoomStep}
-use Rattle.warp_room.specs.Steps.{Came, Left, Heard, Executed, Answered, Handed, Said}
+use Rattle.warp_room.specs.Steps.{Came, Left, Heard, Executed, Answered, Handed, Ruled, Said}
 use Rattle.warp_room.proofs.Clients.{differs_client}
 use Rattle.warp_room.proofs.OpenLines.{new_lines}
 use Rattle.warp_room.proofs.ServedLines.{saids}
@@ -119,6 +119,10 @@ module _ {T : Type 0} (facts : TimelineFacts T) where
       older_of r r' (ap (λ (x : RoomState T). x.queues.came) d.leaves)
       (subst (λ (q : QueuesState). SeatsBefore r.queues.came q.seats) (sym (ap (λ (x : RoomState T). x.queues) d.leaves)) older.0)
       (made_same r r' (ap (λ (x : RoomState T). x.made) d.leaves) older.1)
+  older_step (Ruled rules) r r' older d =
+      older_of r r' (ap (λ (x : RoomState T). x.queues.came) d)
+      (subst (λ (q : QueuesState). SeatsBefore r.queues.came q.seats) (sym (ap (λ (x : RoomState T). x.queues) d)) older.0)
+      (made_same r r' (ap (λ (x : RoomState T). x.made) d) older.1)
 
   pub older_kept : (steps : List RoomStep) (r r' : RoomState T) → RoomRuns facts steps r r' → AreOlder r → AreOlder r'
   older_kept [] r r' runs older = subst (λ (x : RoomState T). AreOlder x) (sym runs) older

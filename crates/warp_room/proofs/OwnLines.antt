@@ -31,8 +31,9 @@ use Rattle.warp_replica.specs.declared.taking.Took.TheVariants.{New, Known}
 use Rattle.warp_watch.proofs.Shownness.{all_taken, begun_within}
 use Rattle.warp_room.specs.Own.{AnnouncesTo, ClosesFirst, ClosesOne, IsUnsaid, IsUpTo, place_of}
 use Rattle.warp_room.specs.Room.{RoomState}
+use Rattle.warp_room.specs.Rules.{IsPastTime}
 use Rattle.warp_room.specs.Steps.{MaySay, RoomStep, Says}
-use Rattle.warp_room.specs.Steps.{Came, Left, Heard, Executed, Answered, Handed, Said}
+use Rattle.warp_room.specs.Steps.{Came, Left, Heard, Executed, Answered, Handed, Ruled, Said}
 use Rattle.warp_room.proofs.CallSteps.{runs_join}
 use Rattle.warp_room.proofs.Runs.{runs_keeping}
 use Rattle.warp_room.proofs.ServedLines.{replied}
@@ -115,6 +116,7 @@ to_wider tag below (Heard who said) h = h
 to_wider tag below Executed h = h
 to_wider tag below (Answered one) h = h
 to_wider tag below (Handed one) h = h
+to_wider tag below (Ruled rules) h = h
 
 all_wider : (tag : Moment) (below : ℕ) (steps : List RoomStep) → AllByRecursion (AnnouncesTo tag below) steps → AllByRecursion (AnnouncesTo tag (below + 1)) steps
 all_wider tag below [] all = tt
@@ -225,11 +227,12 @@ module _ {T : Type 0} (facts : TimelineFacts T) where
 
   -- an input that is sent, or refused
   pub sent_at : (r r' : RoomState T) (one : Record) (most origin input : ℕ) (value : ℤ) (asked tag : Moment) (place : ℕ) → one ≡ Event origin tag input value
-      → IsStamp most (set_of r.replica.records) origin asked tag → ((answer : Answer) × Says facts one answer r r' × (there place ≡ place_of answer.reply))
-      → IsStamp most (set_of r.replica.records) origin asked tag
+      → IsStamp most (set_of r.replica.records) origin asked tag → (IsPastTime r.rules.last tag.time → ⊥) → ((answer : Answer) × Says facts one answer r r' × (there place ≡ place_of answer.reply))
+      → IsStamp most (set_of r.replica.records) origin asked tag × (¬ IsPastTime r.rules.last tag.time)
       × ((answer : Answer) × Says facts (Event origin tag input value) answer r r' × (answer.reply ≡ reply.Taken place))
-  sent_at r r' one most origin input value asked tag place e stamp s = (
+  sent_at r r' one most origin input value asked tag place e stamp early s = (
     stamp,
+    early,
     (
       s.0,
       subst (λ (x : Record). Says facts x s.0 r r') e s.1,
@@ -238,12 +241,16 @@ module _ {T : Type 0} (facts : TimelineFacts T) where
   )
 
   pub unsent_at : (r r' : RoomState T) (one : Record) (most origin input : ℕ) (value : ℤ) (asked tag : Moment) (refusal : Refusal)
-      → one ≡ Event origin tag input value → IsStamp most (set_of r.replica.records) origin asked tag
+      → one ≡ Event origin tag input value → IsStamp most (set_of r.replica.records) origin asked tag → (IsPastTime r.rules.last tag.time → ⊥)
       → ((answer : Answer) × Says facts one answer r r' × (failed refusal ≡ place_of answer.reply))
-      → (other : Moment) × (IsStamp most (set_of r.replica.records) origin asked other
+      → (other : Moment) × (IsStamp most (set_of r.replica.records) origin asked other × (¬ IsPastTime r.rules.last other.time)
       × ((answer : Answer) × Says facts (Event origin other input value) answer r r' × (answer.reply ≡ reply.Refused refusal)))
-  unsent_at r r' one most origin input value asked tag refusal e stamp s =
-      (tag, (stamp, (s.0, subst (λ (x : Record). Says facts x s.0 r r') e s.1, unsaid r r' one s.0 s.1 refusal s.2)))
+  unsent_at r r' one most origin input value asked tag refusal e stamp early s =
+      (tag, (stamp, early, (s.0, subst (λ (x : Record). Says facts x s.0 r r') e s.1, unsaid r r' one s.0 s.1 refusal s.2)))
+
+-- what is past by the rules of a state is by those of the same one
+pub past_here : {T : Type 0} (r r' : RoomState T) (time : ℕ) → r ≡ r' → IsPastTime r'.rules.last time → IsPastTime r.rules.last time
+past_here {T} r r' time same past = subst (λ (x : RoomState T). IsPastTime x.rules.last time) (sym same) past
 
 -- what may be said of a state may be of the same one
 pub may_here : {T : Type 0} (r r' : RoomState T) (one : Record) → r ≡ r' → MaySay (keeps r'.keeping) r'.replica.program r'.replica.records one

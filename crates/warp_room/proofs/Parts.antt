@@ -14,7 +14,7 @@ use Rattle.warp_room.specs.declared.answers.Outcome.{Outcome}
 use Rattle.warp_room.specs.declared.answers.Outcome.TheVariants as outcome
 use Rattle.warp_room.specs.Room.{Logged, history, history_of, is_client, logged_of, of_client, with_line}
 use Rattle.warp_room.specs.Steps.{HasClient, RoomStep, logged_in, own, own_in, served_in}
-use Rattle.warp_room.specs.Steps.{Came, Left, Heard, Executed, Answered, Handed, Said}
+use Rattle.warp_room.specs.Steps.{Came, Left, Heard, Executed, Answered, Handed, Ruled, Said}
 use Rattle.warp_room.proofs.Clients.{client_is, client_itself}
 
 -- whether these are the same client, or both the host
@@ -180,6 +180,10 @@ other_with who said len (outcome.Replied reply) rest = refl
 other_with who said len outcome.Kept rest = refl
 other_with who said len outcome.Late rest = refl
 other_with who said len outcome.Differs rest = refl
+other_with who said len outcome.Early rest = refl
+other_with who said len outcome.NoSeat rest = refl
+other_with who said len outcome.Breaks rest = refl
+other_with who said len outcome.Unjudged rest = refl
 
 own_part : (steps : List RoomStep) → by None (logged_in steps) ≡ own_in steps
 own_part [] = refl
@@ -189,6 +193,7 @@ own_part (Heard who said ∷ steps) = own_part steps
 own_part (Executed ∷ steps) = own_part steps
 own_part (Answered one ∷ steps) = other_with one.who one.said one.answer.len one.answer.outcome (logged_in steps) ∙ own_part steps
 own_part (Handed one ∷ steps) = own_part steps
+own_part (Ruled rules ∷ steps) = own_part steps
 own_part (Said one answer ∷ steps) = ap (λ (l : List Logged). own one answer ∷ l) (own_part steps)
 
 module _ (who : ClientId) where
@@ -208,6 +213,14 @@ module _ (who : ClientId) where
   with_if false of said len outcome.Late rest kept e same = same
   with_if true of said len outcome.Differs rest kept e same = same
   with_if false of said len outcome.Differs rest kept e same = same
+  with_if true of said len outcome.Early rest kept e same = same
+  with_if false of said len outcome.Early rest kept e same = same
+  with_if true of said len outcome.NoSeat rest kept e same = same
+  with_if false of said len outcome.NoSeat rest kept e same = same
+  with_if true of said len outcome.Breaks rest kept e same = same
+  with_if false of said len outcome.Breaks rest kept e same = same
+  with_if true of said len outcome.Unjudged rest kept e same = same
+  with_if false of said len outcome.Unjudged rest kept e same = same
 
   client_part : (steps : List RoomStep) → by (Some who) (logged_in steps) ≡ logged_of (of_client who (served_in steps))
   client_part [] = refl
@@ -218,6 +231,7 @@ module _ (who : ClientId) where
   client_part (Answered one ∷ steps) =
       with_if (is_client who one.who) one.who one.said one.answer.len one.answer.outcome (logged_in steps) (of_client who (served_in steps)) refl (client_part steps)
   client_part (Handed one ∷ steps) = client_part steps
+  client_part (Ruled rules ∷ steps) = client_part steps
   client_part (Said one answer ∷ steps) = client_part steps
 
 clients_parts : (steps : List RoomStep) (clients : List ClientId)
@@ -259,6 +273,10 @@ module _ (clients : List ClientId) where
   among_with who said len outcome.Kept rest has all = all
   among_with who said len outcome.Late rest has all = all
   among_with who said len outcome.Differs rest has all = all
+  among_with who said len outcome.Early rest has all = all
+  among_with who said len outcome.NoSeat rest has all = all
+  among_with who said len outcome.Breaks rest has all = all
+  among_with who said len outcome.Unjudged rest has all = all
 
   among_all : (steps : List RoomStep) → AllByRecursion (HasClient clients) (served_in steps) → AllByRecursion (IsAmong all_of) (logged_in steps)
   among_all [] has = tt
@@ -269,6 +287,7 @@ module _ (clients : List ClientId) where
   among_all (Answered one ∷ steps) has =
       among_with one.who one.said one.answer.len one.answer.outcome (logged_in steps) has.0 (among_all steps has.1)
   among_all (Handed one ∷ steps) has = among_all steps has
+  among_all (Ruled rules ∷ steps) has = among_all steps has
   among_all (Said one answer ∷ steps) has = (refl, among_all steps has)
 
 pub parted : (P : Program) (log : List Record) (began : ℕ) (steps : List RoomStep) (clients : List ClientId)

@@ -16,8 +16,9 @@ use Rattle.warp_room.specs.declared.answers.Outcome.{Outcome}
 use Rattle.warp_room.specs.declared.answers.Outcome.TheVariants as outcome
 use Rattle.warp_room.specs.Gate.{ComesTo}
 use Rattle.warp_room.specs.Room.{Logged, RoomState, history, with_line}
+use Rattle.warp_room.specs.Rules.{RulesState}
 use Rattle.warp_room.specs.Steps.{RoomDoes, RoomRuns, RoomStep, logged_in, own}
-use Rattle.warp_room.specs.Steps.{Came, Left, Heard, Executed, Answered, Handed, Said}
+use Rattle.warp_room.specs.Steps.{Came, Left, Heard, Executed, Answered, Handed, Ruled, Said}
 use Rattle.warp_room.proofs.KeptLogs.{line_goes_on, own_goes_on}
 use Rattle.warp_room.proofs.ServedLines.{came}
 
@@ -52,6 +53,10 @@ with_more who said len (outcome.Replied reply) given rest = append_assoc given (
 with_more who said len outcome.Kept given rest = ap (λ (l : List Logged). l ++ rest) (append-nil given)
 with_more who said len outcome.Late given rest = ap (λ (l : List Logged). l ++ rest) (append-nil given)
 with_more who said len outcome.Differs given rest = ap (λ (l : List Logged). l ++ rest) (append-nil given)
+with_more who said len outcome.Early given rest = ap (λ (l : List Logged). l ++ rest) (append-nil given)
+with_more who said len outcome.NoSeat given rest = ap (λ (l : List Logged). l ++ rest) (append-nil given)
+with_more who said len outcome.Breaks given rest = ap (λ (l : List Logged). l ++ rest) (append-nil given)
+with_more who said len outcome.Unjudged given rest = ap (λ (l : List Logged). l ++ rest) (append-nil given)
 
 module _ {T : Type 0} (facts : TimelineFacts T) where
   given_more : (began : ℕ) (r r' : ReplicaState T) (given : List Logged) (one : Logged) → IsHistory r.program r.records began (history given ∷ [])
@@ -66,14 +71,18 @@ module _ {T : Type 0} (facts : TimelineFacts T) where
   stayed began r r' given s same =
       subst (λ (all : List Logged). IsHistory r'.program r'.records began (history all ∷ [])) (sym (append-nil given)) (stays_all began r r' _ same s)
 
-  line_more : (kept : ℕ → Bool) (began : ℕ) (r r' : ReplicaState T) (given : List Logged) (who : ClientId) (said : Line) (len : ℕ) (told : Outcome)
-      → IsHistory r.program r.records began (history given ∷ []) → ComesTo kept facts r said len told r'
+  line_more : (kept : ℕ → Bool) (rules : RulesState) (began : ℕ) (r r' : ReplicaState T) (given : List Logged) (who : ClientId) (said : Line) (len : ℕ) (told : Outcome)
+      → IsHistory r.program r.records began (history given ∷ []) → ComesTo kept rules who facts r said len told r'
       → IsHistory r'.program r'.records began (history (given ++ with_line who said len told []) ∷ [])
-  line_more kept began r r' given who said len (outcome.Replied reply) s c =
+  line_more kept rules began r r' given who said len (outcome.Replied reply) s c =
       given_more began r r' given (record { who = Some who; said = said; answer = record { len = len; reply = reply } }) s c.1
-  line_more kept began r r' given who said len outcome.Kept s c = stayed began r r' given s c.2
-  line_more kept began r r' given who said len outcome.Late s c = stayed began r r' given s c.2
-  line_more kept began r r' given who said len outcome.Differs s c = stayed began r r' given s c.2
+  line_more kept rules began r r' given who said len outcome.Kept s c = stayed began r r' given s c.2
+  line_more kept rules began r r' given who said len outcome.Late s c = stayed began r r' given s c.2
+  line_more kept rules began r r' given who said len outcome.Differs s c = stayed began r r' given s c.2
+  line_more kept rules began r r' given who said len outcome.Early s c = stayed began r r' given s c.2
+  line_more kept rules began r r' given who said len outcome.NoSeat s c = stayed began r r' given s c.2
+  line_more kept rules began r r' given who said len outcome.Breaks s c = stayed began r r' given s c.2
+  line_more kept rules began r r' given who said len outcome.Unjudged s c = stayed began r r' given s c.2
 
   pub runs_on : (steps : List RoomStep) (began : ℕ) (r r' : RoomState T) (given : List Logged)
       → IsHistory r.replica.program r.replica.records began (history given ∷ []) → RoomRuns facts steps r r'
@@ -91,13 +100,15 @@ module _ {T : Type 0} (facts : TimelineFacts T) where
       subst (λ (all : List Logged). IsHistory r'.replica.program r'.replica.records began (history all ∷ []))
       (with_more one.who one.said one.answer.len one.answer.outcome given (logged_in steps))
       (runs_on steps began runs.0 r' (given ++ with_line one.who one.said one.answer.len one.answer.outcome [])
-      (line_more (keeps r.keeping) began r.replica runs.0.replica given one.who one.said one.answer.len one.answer.outcome s runs.1.comes) runs.2)
+      (line_more (keeps r.keeping) r.rules began r.replica runs.0.replica given one.who one.said one.answer.len one.answer.outcome s runs.1.comes) runs.2)
   runs_on (Handed one ∷ steps) began r r' given s runs =
       runs_on steps began runs.0 r' given (stays_all began r.replica runs.0.replica _ (ap (λ (x : RoomState T). x.replica) runs.1.1.leaves) s) runs.2
   runs_on (Said one answer ∷ steps) began r r' given s runs =
       subst (λ (all : List Logged). IsHistory r'.replica.program r'.replica.records began (history all ∷ []))
       (append_assoc given (own one answer ∷ []) (logged_in steps))
       (runs_on steps began runs.0 r' (given ++ own one answer ∷ []) (given_more began r.replica runs.0.replica given (own one answer) s runs.1.answers) runs.2)
+  runs_on (Ruled rules ∷ steps) began r r' given s runs =
+      runs_on steps began runs.0 r' given (stays_all began r.replica runs.0.replica _ (ap (λ (x : RoomState T). x.replica) runs.1) s) runs.2
 
   pub runs_history : (steps : List RoomStep) (r r' : RoomState T) → RoomRuns facts steps r r'
       → IsHistory r'.replica.program r'.replica.records (length r.replica.records) (history (logged_in steps) ∷ [])
@@ -113,10 +124,11 @@ module _ {T : Type 0} (facts : TimelineFacts T) where
   step_keeping Executed r r' d = (ap (λ (x : RoomState T). x.keeping) d.2, d.0)
   step_keeping (Answered one) r r' d = (
     ap (λ (x : RoomState T). x.keeping) d.leaves,
-    (came (keeps r.keeping) facts r.replica r'.replica one.said one.answer.len one.answer.outcome d.comes).program,
+    (came (keeps r.keeping) r.rules one.who facts r.replica r'.replica one.said one.answer.len one.answer.outcome d.comes).program,
   )
   step_keeping (Handed one) r r' d = (ap (λ (x : RoomState T). x.keeping) d.1.leaves, ap (λ (x : RoomState T). x.replica.program) d.1.leaves)
   step_keeping (Said one answer) r r' d = (ap (λ (x : RoomState T). x.keeping) d.leaves, d.answers.given.program)
+  step_keeping (Ruled rules) r r' d = (ap (λ (x : RoomState T). x.keeping) d, ap (λ (x : RoomState T). x.replica.program) d)
 
   pub runs_keeping : (steps : List RoomStep) (r r' : RoomState T) → RoomRuns facts steps r r' → (r'.keeping ≡ r.keeping) × (r'.replica.program ≡ r.replica.program)
   runs_keeping [] r r' runs = (ap (λ (x : RoomState T). x.keeping) runs, ap (λ (x : RoomState T). x.replica.program) runs)
@@ -136,9 +148,10 @@ module _ {T : Type 0} (facts : TimelineFacts T) where
   step_goes_on (Heard who said) r r' first d on = same_log _ first _ r'.replica.records (ap (λ (x : RoomState T). x.replica.records) d.1) on
   step_goes_on Executed r r' first d on = same_log _ first _ r'.replica.records d.1 on
   step_goes_on (Answered one) r r' first d on =
-      line_goes_on (keeps r.keeping) facts r.replica r'.replica first one.said one.answer.len one.answer.outcome on d.comes
+      line_goes_on (keeps r.keeping) r.rules one.who facts r.replica r'.replica first one.said one.answer.len one.answer.outcome on d.comes
   step_goes_on (Handed one) r r' first d on = same_log _ first _ r'.replica.records (ap (λ (x : RoomState T). x.replica.records) d.1.leaves) on
   step_goes_on (Said one answer) r r' first d on = own_goes_on (keeps r.keeping) facts r.replica r'.replica first one answer on d.may d.answers
+  step_goes_on (Ruled rules) r r' first d on = same_log _ first _ r'.replica.records (ap (λ (x : RoomState T). x.replica.records) d) on
 
   pub runs_goes_on : (steps : List RoomStep) (r r' : RoomState T) (first : List Record) → RoomRuns facts steps r r'
       → GoesOn (keeps r.keeping) first r.replica.records → GoesOn (keeps r.keeping) first r'.replica.records

@@ -7,8 +7,6 @@ use Rattle.warp_step.specs.Program.{Program}
 use Rattle.warp_record.specs.declared.record.Record.{Record}
 use Rattle.warp_record.specs.declared.line.Line.{Line}
 use Rattle.warp_record.specs.declared.reply.Reply.{Reply}
-use Rattle.warp_keep.specs.declared.judging.Judgement.{Judgement}
-use Rattle.warp_keep.specs.declared.judging.Judgement.TheVariants as judgement
 use Rattle.warp_replica.specs.declared.answer.Answer.{Answer}
 use Rattle.warp_replica.specs.Answered.{AnswersLine, TimelineFacts}
 use Rattle.warp_replica.specs.Gives.{Gives}
@@ -18,8 +16,10 @@ use Rattle.warp_replica.proofs.Growing.{begins, grows}
 use Rattle.warp_room.specs.declared.answers.AnsweredLine.{AnsweredLine}
 use Rattle.warp_room.specs.declared.answers.Outcome.{Outcome}
 use Rattle.warp_room.specs.declared.answers.Outcome.TheVariants as outcome
-use Rattle.warp_room.specs.Gate.{ComesTo, HasJudged, IsTold, KeepsOut, WasJudged}
+use Rattle.warp_room.specs.Gate.{ComesTo, IsRefused, IsTold, KeepsOut, WasKeptOut}
 use Rattle.warp_room.specs.Room.{AreHeld, AreRisingTo, AreToldOn}
+use Rattle.warp_room.specs.Rules.{RulesState}
+use Rattle.warp_watch.specs.declared.client_id.ClientId.{ClientId}
 
 abbrev pub saids : List AnsweredLine → List Line
 saids served = map (λ (one : AnsweredLine). one.said) served
@@ -40,17 +40,26 @@ module _ (P : Program) (log rest : List Record) where
     (g.1.0, subst (λ (l : List Record). Gives P g.1.0 said answer.reply l) (sym (take-append-le answer.len log rest g.0)) g.1.1),
   )
 
-  was_later : (why : Judgement) (said : Line) (len : ℕ) → WasJudged why P log said len → WasJudged why P (log ++ rest) said len
-  was_later why said len w = (
+  was_later : (told : Outcome) (said : Line) (len : ℕ) → WasKeptOut told P log said len → WasKeptOut told P (log ++ rest) said len
+  was_later told said len w = (
     omega (arith, w.0, length-append log rest),
-    (w.1.0, subst (λ (l : List Record). HasJudged w.1.0 P l said why) (sym (take-append-le len log rest w.0)) w.1.1),
+    (
+      w.1.0,
+      w.1.1,
+      w.1.2,
+      subst (λ (l : List Record). IsRefused w.1.0 w.1.1 w.1.2 P l said told) (sym (take-append-le len log rest w.0)) w.1.3,
+    ),
   )
 
   told_later : (said : Line) (len : ℕ) (told : Outcome) → IsTold P log said len told → IsTold P (log ++ rest) said len told
   told_later said len (outcome.Replied reply) t = given_later said (record { len = len; reply = reply }) t
-  told_later said len outcome.Kept t = was_later judgement.Kept said len t
-  told_later said len outcome.Late t = was_later judgement.Late said len t
-  told_later said len outcome.Differs t = was_later judgement.Differs said len t
+  told_later said len outcome.Kept t = was_later outcome.Kept said len t
+  told_later said len outcome.Late t = was_later outcome.Late said len t
+  told_later said len outcome.Differs t = was_later outcome.Differs said len t
+  told_later said len outcome.Early t = was_later outcome.Early said len t
+  told_later said len outcome.NoSeat t = was_later outcome.NoSeat said len t
+  told_later said len outcome.Breaks t = was_later outcome.Breaks said len t
+  told_later said len outcome.Unjudged t = was_later outcome.Unjudged said len t
 
   all_later : (served : List AnsweredLine) → AreToldOn P log served → AreToldOn P (log ++ rest) served
   all_later [] t = tt
@@ -63,6 +72,10 @@ module _ (P : Program) (log : List Record) where
   told_within said len outcome.Kept t = t.0
   told_within said len outcome.Late t = t.0
   told_within said len outcome.Differs t = t.0
+  told_within said len outcome.Early t = t.0
+  told_within said len outcome.NoSeat t = t.0
+  told_within said len outcome.Breaks t = t.0
+  told_within said len outcome.Unjudged t = t.0
 
   within : (served : List AnsweredLine) → AreToldOn P log served → AreWithin (length log) served
   within [] t = tt
@@ -119,15 +132,21 @@ module _ {T : Type 0} (keeps : ℕ → Bool) (facts : TimelineFacts T) (r r' : R
         longer = omega (arith, a.len, ap (λ (l : List Record). length l) b.1, length-append r.records b.0);
       }
 
-  was_judged : (why : Judgement) → KeepsOut keeps why r said len r' → WasJudged why r'.program r'.records said len
-  was_judged why k =
-      subst (λ (x : ReplicaState T). WasJudged why x.program x.records said len) (sym k.2) (
+module _ {T : Type 0} (keeps : ℕ → Bool) (rules : RulesState) (who : ClientId) (facts : TimelineFacts T) (r r' : ReplicaState T) (said : Line) (len : ℕ) where
+  was_kept : (told : Outcome) → KeepsOut keeps rules who told r said len r' → WasKeptOut told r'.program r'.records said len
+  was_kept told k =
+      subst (λ (x : ReplicaState T). WasKeptOut told x.program x.records said len) (sym k.2) (
         omega (arith, k.1),
-        (keeps, subst (λ (l : List Record). HasJudged keeps r.program l said why) (sym (ap (λ n. take n r.records) k.1 ∙ take_all r.records)) k.0),
+        (
+          keeps,
+          rules,
+          who,
+          subst (λ (l : List Record). IsRefused keeps rules who r.program l said told) (sym (ap (λ n. take n r.records) k.1 ∙ take_all r.records)) k.0,
+        ),
       )
 
-  stayed : (why : Judgement) (told : Outcome) → KeepsOut keeps why r said len r' → IsTold r'.program r'.records said len told → Came r said len told r'
-  stayed why told k t = record {
+  stayed : (told : Outcome) → KeepsOut keeps rules who told r said len r' → IsTold r'.program r'.records said len told → Came r said len told r'
+  stayed told k t = record {
     rest = [];
     grew = ap (λ (x : ReplicaState T). x.records) k.2 ∙ sym (append-nil r.records);
     program = ap (λ (x : ReplicaState T). x.program) k.2;
@@ -135,11 +154,15 @@ module _ {T : Type 0} (keeps : ℕ → Bool) (facts : TimelineFacts T) (r r' : R
     longer = omega (arith, k.1);
   }
 
-  pub came : (told : Outcome) → ComesTo keeps facts r said len told r' → Came r said len told r'
-  came (outcome.Replied reply) c = replied reply c.1
-  came outcome.Kept c = stayed judgement.Kept outcome.Kept c (was_judged judgement.Kept c)
-  came outcome.Late c = stayed judgement.Late outcome.Late c (was_judged judgement.Late c)
-  came outcome.Differs c = stayed judgement.Differs outcome.Differs c (was_judged judgement.Differs c)
+  pub came : (told : Outcome) → ComesTo keeps rules who facts r said len told r' → Came r said len told r'
+  came (outcome.Replied reply) c = replied keeps facts r r' said len reply c.1
+  came outcome.Kept c = stayed outcome.Kept c (was_kept outcome.Kept c)
+  came outcome.Late c = stayed outcome.Late c (was_kept outcome.Late c)
+  came outcome.Differs c = stayed outcome.Differs c (was_kept outcome.Differs c)
+  came outcome.Early c = stayed outcome.Early c (was_kept outcome.Early c)
+  came outcome.NoSeat c = stayed outcome.NoSeat c (was_kept outcome.NoSeat c)
+  came outcome.Breaks c = stayed outcome.Breaks c (was_kept outcome.Breaks c)
+  came outcome.Unjudged c = stayed outcome.Unjudged c (was_kept outcome.Unjudged c)
 
 -- a log that grew keeps what is held
 pub held_later : (P : Program) (log rest : List Record) (served : List AnsweredLine) → AreHeld P log served → AreHeld P (log ++ rest) served

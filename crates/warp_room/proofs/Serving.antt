@@ -15,6 +15,7 @@ use Rattle.warp_room.specs.declared.answers.Outcome.TheVariants.{Replied}
 use Rattle.warp_room.specs.declared.room.Worked.{Worked}
 use Rattle.warp_room.specs.declared.room.Worked.TheVariants.{NoMemory}
 use Rattle.warp_room.specs.Gate.{ComesTo}
+use Rattle.warp_room.specs.Rules.{RulesState}
 use Rattle.warp_room.specs.Room.{AreHeld, AreKept, AreShownBefore, RoomState}
 use Rattle.warp_room.specs.Steps.{EndsTurn, EndsWork, MaySay, NeedsAll, Serves, ServeEach}
 use Rattle.warp_room.proofs.KeptLogs.{kept_more, line_goes_on, own_goes_on}
@@ -65,18 +66,18 @@ module _ {T : Type 0} (facts : TimelineFacts T) where
         kept_more keeps facts r r' b.program (λ first on. own_goes_on keeps facts r r' first one answer on may a) kept,
       )
 
-  pub kept_served : (keeps : ℕ → Bool) (r r' : ReplicaState T) (made : List AnsweredLine) (one : AnsweredLine) (shown : ShownState) (digest : DigestState)
+  pub kept_served : (keeps : ℕ → Bool) (rules : RulesState) (r r' : ReplicaState T) (made : List AnsweredLine) (one : AnsweredLine) (shown : ShownState) (digest : DigestState)
       → AreHeld r.program r.records made → AreShownBefore r.program r.records shown → IsCounted r.records digest → AreKept keeps r.program r.records
-      → ComesTo keeps facts r one.said one.answer.len one.answer.outcome r' → AreHeld r'.program r'.records (made ++ one ∷ [])
+      → ComesTo keeps rules one.who facts r one.said one.answer.len one.answer.outcome r' → AreHeld r'.program r'.records (made ++ one ∷ [])
       × AreShownBefore r'.program r'.records shown × IsCounted r'.records digest × AreKept keeps r'.program r'.records
-  kept_served keeps r r' made one shown digest held begun counted kept c =
-      let b = came keeps facts r r' one.said one.answer.len one.answer.outcome c in
+  kept_served keeps rules r r' made one shown digest held begun counted kept c =
+      let b = came keeps rules one.who facts r r' one.said one.answer.len one.answer.outcome c in
       let all = kept_came keeps r r' made one.said one.answer.len one.answer.outcome shown digest held begun counted b in (
         held_more r r' made one held b,
         all.1,
         all.2,
         kept_more keeps facts r r' b.program
-            (λ first on. line_goes_on keeps facts r r' first one.said one.answer.len one.answer.outcome on c) kept,
+            (λ first on. line_goes_on keeps rules one.who facts r r' first one.said one.answer.len one.answer.outcome on c) kept,
       )
 
   -- a replica that a call left as it is

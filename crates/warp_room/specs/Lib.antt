@@ -1,4 +1,5 @@
 pub mod Queues
+pub mod Rules
 pub mod Gate
 pub mod Room
 pub mod Steps

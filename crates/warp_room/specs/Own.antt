@@ -19,7 +19,8 @@ use Rattle.warp_room.specs.declared.own.Sent.{Sent}
 use Rattle.warp_room.specs.declared.own.Unsent.{Unsent}
 use Rattle.warp_room.specs.declared.own.Unsent.TheVariants as unsent
 use Rattle.warp_room.specs.Room.{RoomState}
-use Rattle.warp_room.specs.Steps.{Came, Left, Heard, Executed, Answered, Handed, RoomRuns, RoomStep, Said, Says}
+use Rattle.warp_room.specs.Rules.{IsPastTime}
+use Rattle.warp_room.specs.Steps.{Came, Left, Heard, Executed, Answered, Handed, RoomRuns, RoomStep, Ruled, Said, Says}
 
 -- the place that a reply to a record says, or why there is none; no other reply is one to a record
 abbrev pub place_of : Reply → Result ℕ Refusal
@@ -44,6 +45,7 @@ AnnouncesTo tag below Executed = ⊥
 AnnouncesTo tag below (Answered one) = ⊥
 AnnouncesTo tag below (Handed one) = ⊥
 AnnouncesTo tag below (Said one answer) = IsUpTo tag below one
+AnnouncesTo tag below (Ruled rules) = ⊥
 
 -- Of the origins below this one each that is kept has an announcement up to the tag that is reached, and what the host said is
 -- such announcements alone.
@@ -73,18 +75,22 @@ abbrev pub StopsClosing : {T : Type 0} → TimelineFacts T → Moment → Refusa
 StopsClosing {T} facts tag refusal r r' =
     (below : ℕ) × (between : RoomState T) × ClosesFirst facts tag below r between × IsUnsaid facts refusal between r'
 
--- the host gave the replica the input at this tag, which is its stamp, and was answered so
+-- the host gave the replica the input at this tag, which is its stamp and no further ahead than events are taken, and was
+-- answered so
 abbrev pub Sends : {T : Type 0} → TimelineFacts T → ℕ → Input → Moment → Moment → Reply → RoomState T → RoomState T → Type 0
 Sends facts most input asked tag answered r r' =
     IsStamp most (set_of r.replica.records) input.origin asked tag
+    × (¬ IsPastTime r.rules.last tag.time)
     × ((answer : Answer) × Says facts (Event input.origin tag input.input input.value) answer r r' × (answer.reply ≡ answered))
 
--- How sending ends, where times have so many microsteps: at a new place; or not, as the origin is not kept, as there is no stamp, or
--- as the replica refused it.
+-- How sending ends, where times have so many microsteps: at a new place; or not, as the origin is not kept, as there is no stamp, as
+-- that is further ahead than events are taken, or as the replica refused it.
 abbrev pub EndsSending : {T : Type 0} → TimelineFacts T → ℕ → Input → Moment → Result Sent Unsent → RoomState T → RoomState T → Type 0
 EndsSending facts most input asked (Ok sent) r r' = Sends facts most input asked sent.tag (reply.Taken sent.place) r r'
 EndsSending facts most input asked (Err unsent.NotKept) r r' = (keeps r.keeping input.origin ≡ false) × (r' ≡ r)
 EndsSending facts most input asked (Err unsent.Crowded) r r' =
     ((tag : Moment) → ¬ IsStamp most (set_of r.replica.records) input.origin asked tag) × (r' ≡ r)
+EndsSending facts most input asked (Err unsent.Early) r r' =
+    ((tag : Moment) × IsStamp most (set_of r.replica.records) input.origin asked tag × IsPastTime r.rules.last tag.time) × (r' ≡ r)
 EndsSending facts most input asked (Err (unsent.Refused refusal)) r r' =
     (tag : Moment) × Sends facts most input asked tag (reply.Refused refusal) r r'

@@ -19,9 +19,11 @@ use Rattle.warp_room.specs.declared.answers.Outcome.{Outcome}
 use Rattle.warp_room.specs.declared.answers.Outcome.TheVariants as outcome
 use Rattle.warp_room.specs.Gate.{IsTold}
 use Rattle.warp_room.specs.Queues.{QueuesState, lines_of}
+use Rattle.warp_room.specs.Rules.{RulesState}
 
 -- The replica, the clients with the lines of theirs that wait, the lines that were answered and whose answers wait to be
--- handed on, in the order of answering, what was shown of the released outputs, and the origins that are kept. At most so
+-- handed on, in the order of answering, what was shown of the released outputs, the origins that are kept, and what is asked of
+-- records beside. At most so
 -- many lines of a client wait, and no line is answered while so many answers wait.
 pub record RoomState (T : Type 0) : Type 0 where
   pub replica : ReplicaState T
@@ -29,6 +31,7 @@ pub record RoomState (T : Type 0) : Type 0 where
   pub made : List AnsweredLine
   pub shown : ShownState
   pub keeping : Keeping
+  pub rules : RulesState
   pub most_lines : ℕ
   pub most_answers : ℕ
 
@@ -64,6 +67,10 @@ with_line who said len (outcome.Replied reply) given =
 with_line who said len outcome.Kept given = given
 with_line who said len outcome.Late given = given
 with_line who said len outcome.Differs given = given
+with_line who said len outcome.Early given = given
+with_line who said len outcome.NoSeat given = given
+with_line who said len outcome.Breaks given = given
+with_line who said len outcome.Unjudged given = given
 
 -- the lines of these that were left to the log
 abbrev pub logged_of : List AnsweredLine → List Logged

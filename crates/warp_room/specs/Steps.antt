@@ -26,6 +26,7 @@ use Rattle.warp_room.specs.declared.room.Worked.TheVariants.{Idle, More, Held, N
 use Rattle.warp_room.specs.Gate.{ComesTo, IsTold}
 use Rattle.warp_room.specs.Queues.{Comes, Hears, IsFirst, IsSeat, LeavesSeat, SeatState, TakesLine, has_turn}
 use Rattle.warp_room.specs.Room.{Logged, RoomState, is_client, with_line, without}
+use Rattle.warp_room.specs.Rules.{AsksNothing, RulesState}
 
 -- Execution went on, by at most so many steps, and by so many where it did not come to its end, unless it lacked memory; no
 -- record came, and nothing was let go of. A settled replica stays as it is.
@@ -56,7 +57,7 @@ pub record Serves {T : Type 0} (facts : TimelineFacts T) (one : AnsweredLine) (r
   pub turn : IsFirst all r.queues.seats r.queues.next one.who.key
   pub there : IsSeat r.queues.seats one.who seat
   pub oldest : seat.lines ≡ one.said ∷ rest
-  pub comes : ComesTo (keeps r.keeping) facts r.replica one.said one.answer.len one.answer.outcome r'.replica
+  pub comes : ComesTo (keeps r.keeping) r.rules one.who facts r.replica one.said one.answer.len one.answer.outcome r'.replica
   pub takes : TakesLine one.who seat rest r.queues r'.queues
   pub leaves : r' ≡ record r { replica = r'.replica; queues = r'.queues; made = r.made ++ one ∷ [] }
 
@@ -134,8 +135,9 @@ pub data RoomStep : Type 0 where
   Answered : AnsweredLine → RoomStep
   Handed : AnsweredLine → RoomStep
   Said : Record → Answer → RoomStep
+  Ruled : RulesState → RoomStep
 
--- What a step does. Execution, and telling what is asked, leave program and log as they are.
+-- What a step does. Execution, and telling what is asked, leave program and log as they are; so do other rules.
 abbrev pub RoomDoes : {T : Type 0} → TimelineFacts T → RoomStep → RoomState T → RoomState T → Type 0
 RoomDoes facts (Came who) r r' = Comes who r.queues r'.queues × (r' ≡ record r { queues = r'.queues })
 RoomDoes facts (Left who) r r' = Leaves who r r'
@@ -146,6 +148,12 @@ RoomDoes facts Executed r r' =
 RoomDoes facts (Answered one) r r' = Serves facts one r r'
 RoomDoes facts (Handed one) r r' = (limit : ℕ) × Hands limit one r r'
 RoomDoes facts (Said one answer) r r' = Says facts one answer r r'
+RoomDoes facts (Ruled rules) r r' = r' ≡ record r { rules = rules }
+
+-- other rules ask nothing either
+abbrev pub AsksNoMore : RoomStep → Type 0
+AsksNoMore (Ruled rules) = AsksNothing rules
+AsksNoMore step = Unit {0}
 
 -- these steps, one after another
 abbrev pub RoomRuns : {T : Type 0} → TimelineFacts T → List RoomStep → RoomState T → RoomState T → Type 0
@@ -162,6 +170,7 @@ served_in (Executed ∷ steps) = served_in steps
 served_in (Answered one ∷ steps) = one ∷ served_in steps
 served_in (Handed one ∷ steps) = served_in steps
 served_in (Said one answer ∷ steps) = served_in steps
+served_in (Ruled rules ∷ steps) = served_in steps
 
 -- it was left to the log, and answered by the replica's reply
 abbrev pub IsReply : Outcome → Type 0
@@ -169,6 +178,10 @@ IsReply (outcome.Replied reply) = Unit {0}
 IsReply outcome.Kept = ⊥
 IsReply outcome.Late = ⊥
 IsReply outcome.Differs = ⊥
+IsReply outcome.Early = ⊥
+IsReply outcome.NoSeat = ⊥
+IsReply outcome.Breaks = ⊥
+IsReply outcome.Unjudged = ⊥
 
 abbrev pub IsReplied : AnsweredLine → Type 0
 IsReplied one = IsReply one.answer.outcome
@@ -187,6 +200,7 @@ own_in (Executed ∷ steps) = own_in steps
 own_in (Answered one ∷ steps) = own_in steps
 own_in (Handed one ∷ steps) = own_in steps
 own_in (Said one answer ∷ steps) = own one answer ∷ own_in steps
+own_in (Ruled rules ∷ steps) = own_in steps
 
 -- all lines that the replica was given in these steps, in their order: the host's, and those of clients that were left to the log
 abbrev pub logged_in : List RoomStep → List Logged
@@ -198,6 +212,7 @@ logged_in (Executed ∷ steps) = logged_in steps
 logged_in (Answered one ∷ steps) = with_line one.who one.said one.answer.len one.answer.outcome (logged_in steps)
 logged_in (Handed one ∷ steps) = logged_in steps
 logged_in (Said one answer ∷ steps) = own one answer ∷ logged_in steps
+logged_in (Ruled rules ∷ steps) = logged_in steps
 
 -- whose line was answered is among these clients
 abbrev pub HasClient : List ClientId → AnsweredLine → Type 0

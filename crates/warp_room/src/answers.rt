@@ -18,6 +18,14 @@ pub enum Outcome {
     Late,
     /// Its name is of a kept origin, and has another payload: `refused 17`.
     Differs,
+    /// It is an event of a kept origin, further ahead than such are taken: `refused 19`.
+    Early,
+    /// It is an event or a withdrawal of an origin with a seat, on which its client does not sit: `refused 20`.
+    NoSeat,
+    /// It would break an announcement, and the room is strict: `refused 21`.
+    Breaks,
+    /// The room is strict, and there was no memory to tell whether it would break one: `refused 8`.
+    Unjudged,
 }
 
 /// The answer to a line.

@@ -22,7 +22,8 @@ ghost use Rattle.warp_watch.specs.declared.client_id.ClientId.{ClientId};
 ghost use Rattle.warp_room.specs.Queues.{lines_of};
 ghost use Rattle.warp_room.specs.Gate.{IsLeft};
 ghost use Rattle.warp_room.specs.Room.{AreKept, RoomState, history, history_of, is_client, of_client, open_lines};
-ghost use Rattle.warp_room.specs.Steps.{AreFew, AreOlder, HasClient, Hands, IsReplied, Leaves, RoomDoes, RoomRuns};
+ghost use Rattle.warp_room.specs.Rules.{AsksNothing, RulesState};
+ghost use Rattle.warp_room.specs.Steps.{AreFew, AreOlder, AsksNoMore, HasClient, Hands, IsReplied, Leaves, RoomDoes, RoomRuns};
 ghost use Rattle.warp_room.specs.Steps.{RoomStep, Says, Serves, Works, logged_in, own_in, served_in};
 ghost use Rattle.warp_room.specs.declared.room.Worked.{Worked};
 
@@ -44,12 +45,13 @@ pub fn is_history<T: Timeline>()
         (history (own_in steps) ∷ map (λ who. history_of (of_client who (served_in steps))) clients) }
 {}
 
-/// A room that keeps nothing leaves each line to the log, and says nothing itself: all lines that were answered, with their
-/// answers, are the history.
+/// A room that keeps nothing and asks nothing leaves each line to the log, and says nothing itself: all lines that were answered,
+/// with their answers, are the history.
 pub fn nothing_kept<T: Timeline>()
-    ensures left { (P : Program) (log : List Record) (said : Line) → IsLeft (keeps keeping.Nothing) P log said }
-    ensures replied { (steps : List RoomStep) (r r' : RoomState T) → r.keeping ≡ keeping.Nothing →
-        RoomRuns (facts_of T.settled T.refused T.floor T.SLACK) steps r r' →
+    ensures left { (rules : RulesState) (who : ClientId) (P : Program) (log : List Record) (said : Line) → AsksNothing rules →
+        IsLeft (keeps keeping.Nothing) rules who P log said }
+    ensures replied { (steps : List RoomStep) (r r' : RoomState T) → r.keeping ≡ keeping.Nothing → AsksNothing r.rules →
+        AllByRecursion AsksNoMore steps → RoomRuns (facts_of T.settled T.refused T.floor T.SLACK) steps r r' →
         AllByRecursion IsReplied (served_in steps) × (own_in steps ≡ []) ×
         (history (logged_in steps) ≡ history_of (served_in steps)) }
 {}

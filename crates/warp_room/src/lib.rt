@@ -14,6 +14,7 @@ mod own;
 mod queues;
 mod records;
 mod room;
+mod rules;
 mod showing;
 #[cfg(test)]
 mod tests;
@@ -30,5 +31,6 @@ pub use room::{Room, Untold, Worked};
 pub use warp_keep::Keeping;
 pub use warp_line::Progress;
 pub use warp_replica::Answer;
+pub use warp_seats::{Returned, Seating, Seats};
 pub use warp_tag::OutOfMemory;
 pub use warp_watch::ClientId;

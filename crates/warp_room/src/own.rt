@@ -45,6 +45,8 @@ pub enum Unsent {
     NotKept,
     /// So many inputs of its origin are there at that time as are taken.
     Crowded,
+    /// Its tag would be further ahead than events are taken.
+    Early,
     /// The log refused it.
     Refused(Refusal),
 }
@@ -67,7 +69,8 @@ impl<T: Timeline> Room<T> {
     }
 
     /// Takes an input of an origin that it keeps, at the tag that it gives it: the first free microstep, of at most so
-    /// many, of the asked tag's time if that is not closed, else of the first time that is open. `Err` changes no record.
+    /// many, of the asked tag's time if that is not closed, else of the first time that is open; where events are taken so far
+    /// ahead. `Err` changes no record.
     pub fn send(
         &mut self,
         alloc: Global,
@@ -84,6 +87,9 @@ impl<T: Timeline> Room<T> {
         let Some(tag) = stamp(&self.replica, input.origin, asked, most) else {
             return Err(Unsent::Crowded);
         };
+        if self.rules.is_past_time(tag.time()) {
+            return Err(Unsent::Early);
+        }
         match self.say(alloc, event(input, tag)) {
             Ok(place) => Ok(Sent { place, tag }),
             Err(refusal) => Err(Unsent::Refused(refusal)),

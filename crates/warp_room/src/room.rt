@@ -14,6 +14,7 @@ ghost use Rattle.warp_room.specs.declared.queues.Unheard.{Unheard};
 ghost use Rattle.warp_room.specs.declared.room.Untold.{Untold};
 ghost use Rattle.warp_room.specs.declared.room.Worked.{Worked};
 ghost use Rattle.warp_room.specs.Looks.{look_reply};
+ghost use Rattle.warp_room.specs.Rules.{no_rules};
 ghost use Rattle.warp_room.specs.Queues.{Comes, Hears, IsSeat, SeatState, lines_of, may_answer};
 ghost use Rattle.warp_room.specs.Steps.{EndsTurn, EndsWork, Hands, HandsNone, Leaves, Serves, ServeEach, Works};
 
@@ -21,6 +22,7 @@ use crate::answers::{AnsweredLine, forget, next_within};
 use crate::gate::answer_or_keep_out;
 use crate::queues::{Queues, Unheard};
 use crate::records::copy_behind;
+use crate::rules::Rules;
 use std::alloc::Global;
 use std::collections::VecDeque;
 use std::marker::Model;
@@ -54,7 +56,7 @@ pub enum Untold {
     NoMemory,
 }
 
-/// A replica with what waits of its clients, and the origins that it keeps.
+/// A replica with what waits of its clients, the origins that it keeps, and what it asks of records.
 #[derive(Drop)]
 pub struct Room<T: Timeline> {
     pub(crate) replica: Replica<T>,
@@ -63,6 +65,7 @@ pub struct Room<T: Timeline> {
     pub(crate) shown: Shown,
     pub(crate) digest: Digest,
     pub(crate) keeping: Keeping,
+    pub(crate) rules: Rules,
     most_lines: u32,
     most_answers: u32,
 }
@@ -84,6 +87,7 @@ impl<T: Timeline> Model for Room<T> {
           made = r.made.items;
           shown = r.shown;
           keeping = r.keeping;
+          rules = r.rules;
           most_lines = r.most_lines;
           most_answers = r.most_answers;
         } };
@@ -96,7 +100,7 @@ impl<T: Timeline> Model for Room<T> {
 }
 
 impl<T: Timeline> Room<T> {
-    /// A room over this replica, without clients, that keeps nothing. At most `most_lines` lines of a client wait to be
+    /// A room over this replica, without clients, that keeps nothing and asks nothing of records. At most `most_lines` lines of a client wait to be
     /// answered, and no line is answered while `most_answers` answers or more wait to be handed on: with 0 of either
     /// nothing is done.
     pub fn new(alloc: Global, replica: Replica<T>, most_lines: u32, most_answers: u32) -> Room<T>
@@ -106,6 +110,7 @@ impl<T: Timeline> Room<T> {
           made = [];
           shown = record { rows = []; frozen = false };
           keeping = keeping.Nothing;
+          rules = no_rules;
           most_lines = most_lines;
           most_answers = most_answers;
         } }
@@ -117,6 +122,7 @@ impl<T: Timeline> Room<T> {
             shown: Shown::new(alloc),
             digest: Digest::new(alloc),
             keeping: Keeping::Nothing,
+            rules: Rules::none(alloc),
             most_lines,
             most_answers,
         }
@@ -335,8 +341,10 @@ impl<T: Timeline> Room<T> {
         self.queues.take_line(turn.who);
         let answer = answer_or_keep_out(
             &self.keeping,
+            &self.rules,
             &mut self.replica,
             alloc,
+            turn.who,
             turn.line,
             lacking,
         );

@@ -4,6 +4,7 @@
 
 mod laws;
 mod seat;
+mod seating;
 mod seats;
 #[cfg(test)]
 mod tests;
@@ -13,4 +14,5 @@ pub use laws::{
     each_has_one_seat, former_holder_is_out, freed_secrets_are_none, generations_grow,
     lowest_seat_is_given, seats_are_kept, what_is_written_is_read,
 };
+pub use seating::Seating;
 pub use seats::{Returned, Seats};

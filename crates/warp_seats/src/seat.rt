@@ -1,6 +1,7 @@
 //! One seat.
 ghost use Rattle.std.specs.Prelude.{◌≡◌};
 ghost use Rattle.std.specs.Str.{bytes_eq};
+ghost use Rattle.warp_seats.specs.Seating.{is_away};
 ghost use Rattle.warp_seats.specs.Text.{kept_of};
 ghost use Rattle.warp_seats.specs.Seats.{former_of, freed, has_expired, held_by, is_empty, is_holder, is_taken_with, kept_until, left_at, no_seat, same_client, taken_by};
 
@@ -67,6 +68,13 @@ impl Sitter {
         ensures { result ≡ is_empty self.now }
     {
         matches!(self, Sitter::Nobody)
+    }
+
+    /// Whether it is a client that is away.
+    pub(crate) fn is_away(&self) -> bool
+        ensures { result ≡ is_away self.now }
+    {
+        matches!(self, Sitter::Away(_))
     }
 
     /// Whether it is this client.

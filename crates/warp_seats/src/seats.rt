@@ -1,5 +1,5 @@
 //! The seats of all origins.
-ghost use Rattle.std.specs.Prelude.{◌≡◌, ◌<◌, length, IfSome, Option, Some, None, if◌then◌else◌};
+ghost use Rattle.std.specs.Prelude.{◌≡◌, ◌<◌, length, IfSome, Option, Some, None, if◌then◌else◌, true};
 ghost use Rattle.warp_seats.specs.Seats.{back_to, can_take, expired, first_of, free_for, freed, fresh, has_digest, held_by, holds};
 ghost use Rattle.warp_seats.specs.Seats.{is_over, is_taken, left_at, may_send, seat_of, soonest, taken_by, told_of, with_any, with_seat};
 
@@ -201,6 +201,7 @@ impl Seats {
     /// Frees the seat of an origin, whoever sits there: whether somebody did.
     pub fn free(&mut self, origin: u32) -> bool
         ensures was { result ≡ is_taken origin self.old }
+        ensures within { result ≡ true → origin < 64 }
         ensures seats { self.new ≡ (if result then with_seat origin freed self.old else self.old) }
     {
         if !self.taken(origin) {

@@ -9,17 +9,18 @@ use Rattle.warp_tag.specs.Limits.{longest_line}
 use Rattle.warp_record.specs.Lines.{ended, first_end, is_end}
 use Rattle.warp_record.specs.Lines.Piece.{Whole, Long}
 use Rattle.warp_record.specs.Record.{record_spelling}
-use Rattle.warp_hub.specs.Follow.{Counts, FollowState, Hears as HearsLine, HearsPiece, PlacesBehind}
+use Rattle.warp_hub.specs.Follow.{Counts, FollowState, HandsRecord, Hears as HearsLine, HearsPiece, KeepsWhen, PlacesBehind}
+use Rattle.warp_hub.specs.Keeps.{SaysKeeps}
 use Rattle.warp_hub.specs.declared.follow.PeerEvent.{PeerEvent}
 use Rattle.warp_hub.specs.declared.follow.Phase.{Phase}
-use Rattle.warp_hub.specs.declared.follow.Phase.TheVariants.{Over as NotDue, Token, Program, Check, Watch, Pushed, Asked, Level}
+use Rattle.warp_hub.specs.declared.follow.Phase.TheVariants.{Over as NotDue, Token, Program, Keeps, Check, Watch, Pushed, Asked, Level}
 use Rattle.warp_service.specs.declared.contact.Contact.{Contact}
 use Rattle.warp_service.specs.declared.news.NewsOfPeer.{NewsOfPeer}
 use Rattle.warp_service.specs.declared.contact.Due.TheVariants.{Nothing, Try, Question}
 use Rattle.warp_service.specs.declared.contact.Way.{Way}
 use Rattle.warp_service.specs.declared.contact.Way.TheVariants.{Waits, Sought, Begun, Open}
 use Rattle.warp_service.specs.Contact.{Stays, due_now, due_of, is_waiting}
-use Rattle.warp_service.specs.Peers.{FindsLine, FollowDoes, FollowRuns, FollowStep, Goes, Hears, HearsNext, HearsOn, PeerState, Questions, Settles, TakesLine, has_end, lines_in, most_handed, questioned}
+use Rattle.warp_service.specs.Peers.{FindsLine, FollowDoes, FollowRuns, FollowStep, Goes, Hears, HearsNext, HearsOn, KeepsOn, PeerState, Questions, Settles, TakesLine, has_end, lines_in, most_handed, questioned}
 use Rattle.warp_service.specs.Comparing.{asks_digest}
 use Rattle.warp_service.specs.Peers.FollowStep.{Told, Answered, Returned, Spoke}
 
@@ -38,6 +39,24 @@ lines_joined (Answered ∷ first) second = lines_joined first second
 lines_joined (Returned ∷ first) second = lines_joined first second
 lines_joined (Spoke ∷ first) second = lines_joined first second
 
+keeps_joined : (f between f' : FollowState) → KeepsOn f between → KeepsOn between f' → KeepsOn f f'
+keeps_joined f between f' (inl same) (inl again) = inl (again ∙ same)
+keeps_joined f between f' (inr said) (inl again) = inr (said.0, subst (λ (k : List Bool). SaysKeeps said.0 k) (sym again) said.1)
+keeps_joined f between f' one (inr said) = inr said
+
+-- behind a line they are what it says, or stay
+keeps_heard : (phase : Phase) (f : FollowState) (line : List ℕ) (event : Option PeerEvent) (f' : FollowState) → KeepsWhen phase f line event f' → KeepsOn f f'
+keeps_heard NotDue f line event f' same = inl same
+keeps_heard (Token is_told) f line event f' same = inl same
+keeps_heard Program f line event f' same = inl same
+keeps_heard Keeps f line event f' (inl said) = inr (line, said.0)
+keeps_heard Keeps f line event f' (inr none) = inl none.0
+keeps_heard (Check is_host) f line event f' same = inl same
+keeps_heard Watch f line event f' same = inl same
+keeps_heard Pushed f line event f' same = inl same
+keeps_heard Asked f line event f' same = inl same
+keeps_heard Level f line event f' same = inl same
+
 goes_joined : (f between f' : FollowState) (h h1 h2 : List ℕ) → Goes f between h h1 → Goes between f' h1 h2 → Goes f f' h h2
 goes_joined f between f' h h1 h2 one other = record {
   steps = one.steps ++ other.steps;
@@ -45,17 +64,20 @@ goes_joined f between f' h h1 h2 one other = record {
   hands = other.hands ∙ ap (λ l. l ++ lines_in other.steps) one.hands
       ∙ append_assoc h (lines_in one.steps) (lines_in other.steps)
       ∙ sym (ap (λ l. h ++ l) (lines_joined one.steps other.steps));
+  keeps = keeps_joined f between f' one.keeps other.keeps;
 }
 
 goes_nowhere : (f f' : FollowState) (h h' : List ℕ) → f' ≡ f → h' ≡ h → Goes f f' h h'
-goes_nowhere f f' h h' same lines = record { steps = []; runs = same; hands = lines ∙ sym (append-nil h) }
+goes_nowhere f f' h h' same lines =
+    record { steps = []; runs = same; hands = lines ∙ sym (append-nil h); keeps = inl (ap (λ (x : FollowState). x.keeps) same) }
 
 -- one step that hands nothing on
-goes_silent : (step : FollowStep) (f f' : FollowState) (h h' : List ℕ) → lines_in (step ∷ []) ≡ [] → FollowDoes step f f' → h' ≡ h → Goes f f' h h'
-goes_silent step f f' h h' silent does lines = record {
+goes_silent : (step : FollowStep) (f f' : FollowState) (h h' : List ℕ) → lines_in (step ∷ []) ≡ [] → FollowDoes step f f' → h' ≡ h → KeepsOn f f' → Goes f f' h h'
+goes_silent step f f' h h' silent does lines keeps = record {
   steps = step ∷ [];
   runs = (f', does, refl);
   hands = lines ∙ sym (append-nil h) ∙ ap (λ l. h ++ l) (sym silent);
+  keeps = keeps;
 }
 
 places_same : (phase : Phase) (next missing next' missing' : ℕ) → (next' ≡ next) × (missing' ≡ missing)
@@ -63,6 +85,7 @@ places_same : (phase : Phase) (next missing next' missing' : ℕ) → (next' ≡
 places_same NotDue next missing next' missing' same = same
 places_same (Token is_told) next missing next' missing' same = same
 places_same Program next missing next' missing' same = same
+places_same Keeps next missing next' missing' same = same
 places_same (Check is_host) next missing next' missing' same = inl same
 places_same Watch next missing next' missing' same = same
 places_same Pushed next missing next' missing' same = same
@@ -70,19 +93,23 @@ places_same Asked next missing next' missing' same = same
 places_same Level next missing next' missing' same = same
 
 -- what is asked or begun changes no place
-pub goes_same : (f f' : FollowState) (h h' : List ℕ) → f'.next ≡ f.next → f'.missing ≡ f.missing → h' ≡ h → Goes f f' h h'
-goes_same f f' h h' next missing lines =
-    goes_silent Spoke f f' h h' refl (places_same f.phase f.next f.missing f'.next f'.missing (next, missing)) lines
+pub goes_same : (f f' : FollowState) (h h' : List ℕ) → f'.next ≡ f.next → f'.missing ≡ f.missing → f'.keeps ≡ f.keeps → h' ≡ h → Goes f f' h h'
+goes_same f f' h h' next missing keeps lines =
+    goes_silent Spoke f f' h h' refl (places_same f.phase f.next f.missing f'.next f'.missing (next, missing)) lines (inl keeps)
 
 -- what a line is heard as
-goes_line : (f f' : FollowState) (line h h' : List ℕ) (event : Option PeerEvent) → HearsLine f line h event f' h' → Goes f f' h h'
-goes_line f f' line h h' event (inl hands) = record {
+goes_record : (f f' : FollowState) (line h h' : List ℕ) (event : Option PeerEvent) → HandsRecord f line h event f' h' → KeepsOn f f' → Goes f f' h h'
+goes_record f f' line h h' event (inl hands) keeps = record {
   steps = Told hands.0 ∷ [];
   runs = (f', ((line, hands.1), hands.3, hands.4), refl);
   hands = hands.2 ∙ ap (λ l. h ++ l) (sym (append-nil (record_spelling hands.0 ++ 10 ∷ [])));
+  keeps = keeps;
 }
-goes_line f f' line h h' event (inr none) =
-    goes_silent Spoke f f' h h' refl none.4 none.0
+goes_record f f' line h h' event (inr none) keeps =
+    goes_silent Spoke f f' h h' refl none.4 none.0 keeps
+
+goes_line : (f f' : FollowState) (line h h' : List ℕ) (event : Option PeerEvent) → HearsLine f line h event f' h' → Goes f f' h h'
+goes_line f f' line h h' event heard = goes_record f f' line h h' event heard.0 (keeps_heard f.phase f line event f' heard.1)
 
 within : (b : Bool) (line : List ℕ) → b ≡ true → (if b then Whole line else Long) ≡ Whole line
 within true line h = refl
@@ -104,8 +131,10 @@ pub goes_answer : (f f' : FollowState) (h h' : List ℕ) → Counts f f' → h' 
 goes_answer f f' h h' (inl same) lines = goes_nowhere f f' h h' same lines
 goes_answer f f' h h' (inr (inl one)) lines =
     goes_silent Answered f f' h h' refl (one.0, ap (λ (x : FollowState). x.next) one.1, ap (λ (x : FollowState). x.missing) one.1) lines
+    (inl (ap (λ (x : FollowState). x.keeps) one.1))
 goes_answer f f' h h' (inr (inr back)) lines =
     goes_silent Returned f f' h h' refl (ap (λ (x : FollowState). x.next) back, ap (λ (x : FollowState). x.missing) back) lines
+    (inl (ap (λ (x : FollowState). x.keeps) back))
 
 pub stays_joined : (c between c' : Contact) → Stays c between → Stays between c' → Stays c c'
 stays_joined c between c' one other = record {
@@ -210,7 +239,7 @@ pub heard_again : (p p' : PeerState) (phase : Phase) → p'.follower ≡ record 
     → Stays p.contact p'.contact → p'.news.told_at ≡ p.news.told_at → p'.closes ≡ p.closes → p'.connects ≡ p.connects → HearsOn p p'
 heard_again p p' phase follower handed stays told closes connects = record {
   goes = goes_same p.follower p'.follower p.handed p'.handed (ap (λ (f : FollowState). f.next) follower)
-      (ap (λ (f : FollowState). f.missing) follower) handed;
+      (ap (λ (f : FollowState). f.missing) follower) (ap (λ (f : FollowState). f.keeps) follower) handed;
   stays = stays;
   told = told;
   closes = closes;

@@ -4,7 +4,7 @@ use Rattle.std.specs.Prelude.{IsTrue}
 use Rattle.warp_record.specs.declared.record.Record.{Record}
 use Rattle.warp_hub.specs.Follow.{FollowState, PlacesBehind, follows, unconnected}
 use Rattle.warp_hub.specs.declared.follow.Phase.{Phase}
-use Rattle.warp_hub.specs.declared.follow.Phase.TheVariants.{Over, Token, Program, Check, Watch, Pushed, Asked, Level}
+use Rattle.warp_hub.specs.declared.follow.Phase.TheVariants.{Over, Token, Program, Keeps, Check, Watch, Pushed, Asked, Level}
 use Rattle.warp_service.specs.Peers.{FollowDoes, first_open}
 use Rattle.warp_service.specs.Peers.FollowStep.{Told, Answered, Returned, Spoke}
 
@@ -30,6 +30,7 @@ stays : (phase : Phase) (next missing next' missing' : ℕ) → PlacesBehind pha
 stays Over next missing next' missing' h due = h
 stays (Token is_told) next missing next' missing' h due = h
 stays Program next missing next' missing' h due = h
+stays Keeps next missing next' missing' h due = h
 stays (Check is_host) next missing next' missing' h due = absurd (untrue due)
 stays Watch next missing next' missing' h due = h
 stays Pushed next missing next' missing' h due = h
@@ -48,6 +49,7 @@ places : (phase : Phase) (next missing next' missing' : ℕ) → PlacesBehind ph
 places Over next missing next' missing' h = inl h
 places (Token is_told) next missing next' missing' h = inl h
 places Program next missing next' missing' h = inl h
+places Keeps next missing next' missing' h = inl h
 places (Check is_host) next missing next' missing' (inl h) = inl h
 places (Check is_host) next missing next' missing' (inr h) = inr (h.0, h.1, (is_host, refl))
 places Watch next missing next' missing' h = inl h

@@ -2,7 +2,7 @@
 use Rattle.std.specs.Prelude.{◌≡◌, ◌≢◌, ◌⊎◌, ℕ, ◌+◌, ◌<◌, ◌≤◌, Bool, true, false, min, is_some, not, ◌&&◌, ◌||◌, ◌==◌, nat_lt, Option, Some, None, if◌then◌else◌}
 use Rattle.std.specs.Prelude.{List, [], ◌∷◌, ◌++◌, length}
 use Rattle.warp_hub.specs.declared.follow.PeerEvent.{PeerEvent}
-use Rattle.warp_hub.specs.declared.follow.PeerEvent.TheVariants.{Found, Refused}
+use Rattle.warp_hub.specs.declared.follow.PeerEvent.TheVariants.{Found, NotTaken, Refused}
 use Rattle.warp_service.specs.declared.news.NewsOfPeer.{NewsOfPeer}
 use Rattle.warp_service.specs.declared.news.PeerNews.{PeerNews}
 use Rattle.warp_service.specs.declared.news.PeerNews.TheVariants.{Event, Lost, Unreached}
@@ -30,6 +30,7 @@ is_start event = false
 abbrev pub is_reason : PeerEvent → Bool
 is_reason (Found place host) = false
 is_reason (Refused place refusal) = false
+is_reason (NotTaken place) = false
 is_reason event = true
 
 -- that it is followed now was noted, if that is what was said
@@ -39,6 +40,7 @@ with_start start n = if start then record n { is_found = true; is_loss_noted = f
 -- whether it says that a record was refused
 abbrev pub is_refusal : PeerEvent → Bool
 is_refusal (Refused place refusal) = true
+is_refusal (NotTaken place) = true
 is_refusal event = false
 
 -- so many refused records wait to be told at most

@@ -6,6 +6,7 @@ use Rattle.warp_record.specs.Record.{record_spelling}
 use Rattle.std.specs.List.{before_first, starts_with}
 use Rattle.warp_record.specs.Lines.{ended, first_end, is_end, kept_of}
 use Rattle.warp_hub.specs.Follow.{FollowState, HearsPiece, PlacesBehind, TellsRecord, follows, unconnected}
+use Rattle.warp_hub.specs.Keeps.{SaysKeeps, no_flags}
 use Rattle.warp_hub.specs.declared.follow.PeerEvent.{PeerEvent}
 use Rattle.warp_hub.specs.declared.follow.Phase.TheVariants.{Over as NotDue}
 use Rattle.warp_service.specs.declared.comparing.Compared.{Compared}
@@ -62,12 +63,17 @@ lines_in [] = []
 lines_in (Told said ∷ steps) = (record_spelling said ++ 10 ∷ []) ++ lines_in steps
 lines_in (step ∷ steps) = lines_in steps
 
+-- which origins it keeps is what it said of that in some line, or stays
+abbrev pub KeepsOn : FollowState → FollowState → Type 0
+KeepsOn f f' = (f'.keeps ≡ f.keeps) ⊎ ((line : List ℕ) × SaysKeeps line f'.keeps)
+
 -- The peer was followed by some steps, and the records that it told in them wait for the room, behind the others, in their
--- order.
+-- order; which origins it keeps is what it said.
 pub record Goes (f f' : FollowState) (handed handed' : List ℕ) : Type 0 where
   pub steps : List FollowStep
   pub runs : FollowRuns steps f f'
   pub hands : handed' ≡ handed ++ lines_in steps
+  pub keeps : KeepsOn f f'
 
 -- What hearing of a peer does: it is followed by some steps, in which records are handed on in their order; the way to it
 -- stays, and its operator is told nothing yet.
@@ -79,8 +85,9 @@ pub record HearsOn (p p' : PeerState) : Type 0 where
   pub connects : p'.connects ≡ p.connects
 
 -- a peer of which nothing came, to be tried at once
-abbrev pub follower_of : Form → List ℕ → FollowState
-follower_of form program = record { kept = kept_of []; form = form; program = program; phase = NotDue; next = 1; missing = 0 }
+abbrev pub follower_of : Form → List ℕ → List Bool → FollowState
+follower_of form program own =
+    record { kept = kept_of []; form = form; program = program; own = own; keeps = no_flags; phase = NotDue; next = 1; missing = 0 }
 
 -- no connection is there any more, nor is one being made
 abbrev pub forgotten : ℕ → PeerState → PeerState

@@ -231,12 +231,13 @@ fn is_reason(event: PeerEvent) -> bool
     ensures { result ≡ is_reason event }
 {
     match event {
-        PeerEvent::Found { .. } | PeerEvent::Refused { .. } => false,
+        PeerEvent::Found { .. } | PeerEvent::Refused { .. } | PeerEvent::NotTaken { .. } => false,
         PeerEvent::OtherProgram
         | PeerEvent::NotAllowed
         | PeerEvent::Untold
         | PeerEvent::Strange
-        | PeerEvent::NoMemory => true,
+        | PeerEvent::NoMemory
+        | PeerEvent::KeepsToo { .. } => true,
     }
 }
 
@@ -245,13 +246,14 @@ fn is_refusal(event: PeerEvent) -> bool
     ensures { result ≡ is_refusal event }
 {
     match event {
-        PeerEvent::Refused { .. } => true,
+        PeerEvent::Refused { .. } | PeerEvent::NotTaken { .. } => true,
         PeerEvent::Found { .. }
         | PeerEvent::OtherProgram
         | PeerEvent::NotAllowed
         | PeerEvent::Untold
         | PeerEvent::Strange
-        | PeerEvent::NoMemory => false,
+        | PeerEvent::NoMemory
+        | PeerEvent::KeepsToo { .. } => false,
     }
 }
 
@@ -262,10 +264,12 @@ fn is_start(event: PeerEvent) -> bool
     match event {
         PeerEvent::Found { .. } => true,
         PeerEvent::Refused { .. }
+        | PeerEvent::NotTaken { .. }
         | PeerEvent::OtherProgram
         | PeerEvent::NotAllowed
         | PeerEvent::Untold
         | PeerEvent::Strange
-        | PeerEvent::NoMemory => false,
+        | PeerEvent::NoMemory
+        | PeerEvent::KeepsToo { .. } => false,
     }
 }

@@ -336,6 +336,14 @@ fn write_event<W: fmt::Write>(
                 "peer {name} lost: it said what answers no question{left_out}"
             )
         }
+        PeerEvent::KeepsToo { origin } => write!(
+            f,
+            "peer {name} refused: it keeps origin {origin}, which this host keeps too{left_out}"
+        ),
+        PeerEvent::NotTaken { place } => write!(
+            f,
+            "peer {name}: its record at place {place} is of an origin that this host keeps, and was not taken{left_out}"
+        ),
         PeerEvent::NoMemory => {
             write!(
                 f,

@@ -23,7 +23,7 @@ use crate::news::NewsOfPeer;
 use std::alloc::Global;
 use std::marker::Model;
 use std::mem;
-use warp_hub::{Follower, PeerEvent, PeerToken};
+use warp_hub::{Follower, MOST_ORIGINS, PeerEvent, PeerToken};
 use warp_record::MAX_LINE;
 use warp_tag::Form;
 
@@ -88,18 +88,20 @@ impl Model for Peer {
 
 impl Peer {
     /// A peer of this name, to be tried at once. Its records are of this form; the own program's line is what a host of it
-    /// answers to `program`, without its line feed; the token is what the peer wants, if it wants one.
+    /// answers to `program`, without its line feed; `own` says which origins this host keeps, each at the place of its number;
+    /// the token is what the peer wants, if it wants one.
     pub fn new(
         alloc: Global,
         name: String,
         form: Form,
         program: Vec<u8>,
+        own: [bool; MOST_ORIGINS],
         token: Option<PeerToken>,
         now: u64,
     ) -> Peer
         ensures contact { result.contact.way ≡ Way.Waits now }
         ensures losses { result.contact.losses ≡ 0 }
-        ensures follower { result.follower ≡ follower_of form program.items }
+        ensures follower { result.follower ≡ follower_of form program.items own }
         ensures empty { (result.said ≡ []) × (result.handed ≡ []) × (result.kept ≡ []) }
         ensures closes { (result.closes ≡ None) × (result.connects ≡ false) }
         ensures name { result.name ≡ string_bytes name }
@@ -110,7 +112,7 @@ impl Peer {
             alloc,
             name,
             contact: Contact::new(now),
-            follower: Follower::new(form, program, token),
+            follower: Follower::new(form, program, own, token),
             said: Vec::new(alloc),
             handed: Vec::new(alloc),
             kept: Vec::new(alloc),
@@ -135,6 +137,14 @@ impl Peer {
         ensures { result ≡ self.now.news.is_found }
     {
         self.news.is_found()
+    }
+
+    /// Which origins it keeps, each at the place of its number, where it told that since this was asked last.
+    pub fn take_keeps(&mut self) -> Option<[bool; MOST_ORIGINS]>
+        ensures same { self.new ≡ self.old }
+        ensures told { IfSome result (λ flags. flags ≡ self.old.follower.keeps) }
+    {
+        self.follower.take_keeps()
     }
 
     /// How many records it is known to have that the room did not take. It may have more.

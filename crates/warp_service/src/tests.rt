@@ -4,7 +4,7 @@ use crate::{JournalFault, Named, Note, NoteText, Peer, PeerAction, PeerNews};
 use std::alloc::Global;
 use std::fmt::Write;
 use std::test::Fail;
-use warp_hub::{PeerEvent, PeerToken};
+use warp_hub::{MOST_ORIGINS, PeerEvent, PeerToken};
 use warp_record::Refusal;
 use warp_tag::Form;
 
@@ -21,7 +21,15 @@ fn peer(alloc: Global) -> Result<Peer, Fail> {
         text,
         is_first: false,
     };
-    Ok(Peer::new(alloc, name, Form::One, program, Some(token), 0))
+    Ok(Peer::new(
+        alloc,
+        name,
+        Form::One,
+        program,
+        [false; MOST_ORIGINS],
+        Some(token),
+        0,
+    ))
 }
 
 /// It wants this next.
@@ -60,6 +68,15 @@ fn follow(peer: &mut Peer) -> Result<(), Fail> {
     wants(peer, 0, PeerAction::Send(1))?;
     says(peer, b"token secret\n")?;
     peer.bytes(1, b"may *\n", 0);
+    wants(peer, 0, PeerAction::Send(1))?;
+    says(peer, b"keeps\n")?;
+    peer.bytes(1, b"keeps 0 2\n", 0);
+    let mut kept = [false; MOST_ORIGINS];
+    kept[0] = true;
+    kept[2] = true;
+    if peer.take_keeps() != Some(kept) || peer.take_keeps() != None {
+        return Err("others are kept".into());
+    }
     wants(peer, 0, PeerAction::Send(1))?;
     says(peer, b"watch log 1\n")?;
     peer.bytes(1, b"watching 1\n* log 1 event 0 5 0 0 3\n", 0);

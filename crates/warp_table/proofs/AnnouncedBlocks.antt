@@ -134,7 +134,7 @@ same_le n announced count some (inl none) = absurd (omega arith)
 same_le n announced count some (inr (inl below)) = grind (arith, nat_tests)
 same_le n announced count some (inr (inr above)) = grind (arith, nat_tests)
 
-same_lt : (n announced count : ℕ) → 0 < n → IsSpare n announced count → nat_lt announced (count + 1) ≡ nat_lt announced count
+pub same_lt : (n announced count : ℕ) → 0 < n → IsSpare n announced count → nat_lt announced (count + 1) ≡ nat_lt announced count
 same_lt n announced count some (inl none) = absurd (omega arith)
 same_lt n announced count some (inr (inl below)) = grind (arith, nat_tests)
 same_lt n announced count some (inr (inr above)) = grind (arith, nat_tests)

@@ -386,31 +386,38 @@ module _ (records : List Record) (old new : List Heard) (o : ℕ) (tag : Moment)
     ]
   ]
 
+  -- a further one of its name is one of two payloads
+  pub event_again : (joint : JointAnnouncer) → (Contains records event → ⊥) → Contains (heard_at old o).events tag → KeepsJoint records old joint → KeepsJoint (records ++ event ∷ []) new (joint_with event false joint)
+  event_again joint lacks has keeps = record {
+    doubled = Some (earlier_of keeps.doubled tag);
+    least = least_earlier records old new event heard after keeps.doubled o tag (two_payloads lacks has) either_two keeps.least;
+    kept = kept_doubled_more old new tag keeps.doubled joint.announced joint.verdict (further_event has) withdrawals_same keeps.kept;
+    announced = joint_stays records old new event heard after joint joint.announced (λ t e w is. cc) refl keeps.announced;
+  }
+
+  -- the first of its name is counted
+  pub event_first : (joint : JointAnnouncer) → (Contains (heard_at old o).events tag → ⊥) → KeepsJoint records old joint → KeepsJoint (records ++ event ∷ []) new (joint_with event true joint)
+  event_first joint fresh keeps = record {
+    doubled = keeps.doubled;
+    least = least_stays records old new event heard after keeps.doubled (one_payload fresh) keeps.least;
+    kept = kept_event_more old new o tag keeps.doubled joint.announced joint.verdict (first_event fresh) withdrawals_same keeps.kept;
+    announced = joint_stays records old new event heard after joint (counted Event tag joint.announced) (λ t e w is. cc) (announced-counted Event tag joint.announced) keeps.announced;
+  }
+
   event_next : (joint : JointAnnouncer) → (Contains records event → ⊥) → KeepsJoint records old joint → KeepsJoint (records ++ event ∷ []) new (joint_with event (nat_lt (length (heard_at old o).events) (length (heard_at new o).events)) joint)
   event_next joint lacks keeps = elim (cases_Bool (is_member is_same (heard_at old o).events tag)) [
     | inl listed ↦ (
         let has : Contains (heard_at old o).events tag = (is_member-Decides same_tag (heard_at old o).events tag).0 listed in
-        let same = further_event has in
-        let long : length (heard_at new o).events ≡ length (heard_at old o).events = ap (λ (l : List Moment). length l) (same o) in
+        let long : length (heard_at new o).events ≡ length (heard_at old o).events = ap (λ (l : List Moment). length l) (further_event has o) in
         let not_first : nat_lt (length (heard_at old o).events) (length (heard_at new o).events) ≡ false = grind (arith, nat_tests, long) in
-        subst (λ (b : Bool). KeepsJoint (records ++ event ∷ []) new (joint_with event b joint)) (sym not_first) (record {
-          doubled = Some (earlier_of keeps.doubled tag);
-          least = least_earlier records old new event heard after keeps.doubled o tag (two_payloads lacks has) either_two keeps.least;
-          kept = kept_doubled_more old new tag keeps.doubled joint.announced joint.verdict same withdrawals_same keeps.kept;
-          announced = joint_stays records old new event heard after joint joint.announced (λ t e w is. cc) refl keeps.announced;
-        })
+        subst (λ (b : Bool). KeepsJoint (records ++ event ∷ []) new (joint_with event b joint)) (sym not_first) (event_again joint lacks has keeps)
         )
     | inr other ↦ (
         let fresh : Contains (heard_at old o).events tag → ⊥ = (λ has. both_ways (is_member is_same (heard_at old o).events tag) other ((is_member-Decides same_tag (heard_at old o).events tag).1 has)) in
         let one = first_event fresh in
         let long : length (heard_at new o).events ≡ suc (length (heard_at old o).events) = ap (λ (l : List Moment). length l) one.own ∙ length-with_tag tag (heard_at old o).events in
         let first : nat_lt (length (heard_at old o).events) (length (heard_at new o).events) ≡ true = grind (arith, nat_tests, long) in
-        subst (λ (b : Bool). KeepsJoint (records ++ event ∷ []) new (joint_with event b joint)) (sym first) (record {
-          doubled = keeps.doubled;
-          least = least_stays records old new event heard after keeps.doubled (one_payload fresh) keeps.least;
-          kept = kept_event_more old new o tag keeps.doubled joint.announced joint.verdict one withdrawals_same keeps.kept;
-          announced = joint_stays records old new event heard after joint (counted Event tag joint.announced) (λ t e w is. cc) (announced-counted Event tag joint.announced) keeps.announced;
-        })
+        subst (λ (b : Bool). KeepsJoint (records ++ event ∷ []) new (joint_with event b joint)) (sym first) (event_first joint fresh keeps)
         )
   ]
 
@@ -419,7 +426,7 @@ module _ (records : List Record) (old new : List Heard) (o : ℕ) (tag : Moment)
   abbrev gone : Record
   gone = said_of.Withdraw o tag
 
-  withdrawal_next : (joint : JointAnnouncer) → (Contains records gone → ⊥) → KeepsJoint records old joint → KeepsJoint (records ++ gone ∷ []) new (counted_in Withdrawal tag joint)
+  pub withdrawal_next : (joint : JointAnnouncer) → (Contains records gone → ⊥) → KeepsJoint records old joint → KeepsJoint (records ++ gone ∷ []) new (counted_in Withdrawal tag joint)
   withdrawal_next joint lacks keeps = record {
     doubled = keeps.doubled;
     least = least_stays records old new gone heard after keeps.doubled
@@ -446,7 +453,7 @@ module _ (records : List Record) (old new : List Heard) (o : ℕ) (tag : Moment)
       fresh has = lacks ((in_set records gone).1 (((heard.each o).withdrawn tag).0 has))
 
 -- an announcement of an origin's own
-announcement_next : (records : List Record) (old new : List Heard) (o : ℕ) (tag : Moment) (events withdrawn : ℕ) → AreHeard records old → AreHeard (records ++ said_of.Announce o tag events withdrawn ∷ []) new → (joint : JointAnnouncer)
+pub announcement_next : (records : List Record) (old new : List Heard) (o : ℕ) (tag : Moment) (events withdrawn : ℕ) → AreHeard records old → AreHeard (records ++ said_of.Announce o tag events withdrawn ∷ []) new → (joint : JointAnnouncer)
     → KeepsJoint records old joint → KeepsJoint (records ++ said_of.Announce o tag events withdrawn ∷ []) new joint
 announcement_next records old new o tag events withdrawn heard after joint keeps =
     let said : Record = said_of.Announce o tag events withdrawn in

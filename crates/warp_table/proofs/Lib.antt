@@ -42,3 +42,5 @@ pub mod NoRecords
 pub mod CountedNames
 pub mod LastTags
 pub mod ClosedTags
+pub mod TurnsExceeded
+pub mod BreaksOne

@@ -188,7 +188,7 @@ in_order-same xs ys same ordered i j d lt l =
     rw (at i, at j) (ordered i j d lt (omega arith))
 
 -- those that are not beyond a tag stand in front of those that are
-front_not_beyond : (tag : Moment) (xs : List Tally) → All (λ c. is_before tag c.tag ≡ false) (take (place_of tag xs) xs)
+pub front_not_beyond : (tag : Moment) (xs : List Tally) → All (λ c. is_before tag c.tag ≡ false) (take (place_of tag xs) xs)
 front_not_beyond tag xs = λ k d l.
     let within : k < place_of tag xs = omega (arith, length-take (place_of tag xs) xs) in
     rw (get_or-take (place_of tag xs) xs k d within) (fails_before_first (λ c. is_before tag c.tag) xs k d within)
@@ -196,7 +196,7 @@ front_not_beyond tag xs = λ k d l.
 beyond_still : (t u v : Moment) → is_before t u ≡ true → is_before v u ≡ false → is_before t v ≡ true
 beyond_still t u v h k = grind (arith, nat_tests)
 
-are_beyond : (tag : Moment) (xs : List Tally) → AreInOrder xs → All (λ c. is_before tag c.tag ≡ true) (beyond tag xs)
+pub are_beyond : (tag : Moment) (xs : List Tally) → AreInOrder xs → All (λ c. is_before tag c.tag ≡ true) (beyond tag xs)
 are_beyond tag xs ordered = λ k d l.
     let n = place_of tag xs in
     let within : n + k < length xs = omega (arith, length-drop n xs) in
@@ -448,14 +448,14 @@ doubled_there : (doubled : Option Moment) (c : Tally) → has_doubled doubled c 
 doubled_there None c h = absurd (false≢true h)
 doubled_there (Some t) c h = (t, refl, h)
 
-exceeded_heard : (names gone : List Moment) (doubled : Option Moment) (xs : List Tally) (c : Tally) → Counts names gone c → (is_exceeded c ≡ true) ⊎ (has_doubled doubled c ≡ true) → IsExceededBy (heard_of names gone doubled xs) (announcement_of c)
+pub exceeded_heard : (names gone : List Moment) (doubled : Option Moment) (xs : List Tally) (c : Tally) → Counts names gone c → (is_exceeded c ≡ true) ⊎ (has_doubled doubled c ≡ true) → IsExceededBy (heard_of names gone doubled xs) (announcement_of c)
 exceeded_heard names gone doubled xs c counts (inr h) = inr (inr (doubled_there doubled c h))
 exceeded_heard names gone doubled xs c counts (inl h) = elim (or_cases (nat_lt c.events c.events_before) (nat_lt c.withdrawn c.withdrawn_before) h) [
   | inl a ↦ (let more : c.events < c.events_before = ltb-true c.events c.events_before a in inl (omega (arith, counts.events)))
   | inr b ↦ (let more : c.withdrawn < c.withdrawn_before = ltb-true c.withdrawn c.withdrawn_before b in inr (inl (omega (arith, counts.withdrawn))))
 ]
 
-heard_exceeded : (names gone : List Moment) (doubled : Option Moment) (xs : List Tally) (c : Tally) → Counts names gone c → IsExceededBy (heard_of names gone doubled xs) (announcement_of c) → (is_exceeded c ≡ true) ⊎ (has_doubled doubled c ≡ true)
+pub heard_exceeded : (names gone : List Moment) (doubled : Option Moment) (xs : List Tally) (c : Tally) → Counts names gone c → IsExceededBy (heard_of names gone doubled xs) (announcement_of c) → (is_exceeded c ≡ true) ⊎ (has_doubled doubled c ≡ true)
 heard_exceeded names gone doubled xs c counts h = elim h [
   | inl a ↦ inl (or_left (nat_lt c.events c.events_before) (nat_lt c.withdrawn c.withdrawn_before) (lt-ltb c.events c.events_before (omega (arith, counts.events, a))))
   | inr more ↦ elim more [

@@ -8,4 +8,5 @@ pub mod Announced
 pub mod Horizons
 pub mod NameCounts
 pub mod Closed
+pub mod Breaking
 pub mod inner

@@ -11,7 +11,7 @@ ghost use Rattle.warp_tag.specs.Moment.{is_before};
 ghost use Rattle.warp_table.specs.inner.Closed.{IsLastTag};
 ghost use Rattle.warp_table.specs.inner.Tally.{AreInOrder, AreSome, IsJudged, IsSpared, all_of, before_of, beyond};
 ghost use Rattle.warp_table.specs.inner.Tally.{counted, fits, judged_in, no_names, place_of, with_more, with_name};
-ghost use Rattle.warp_table.specs.inner.Tally.{with_tally};
+ghost use Rattle.warp_table.specs.inner.Tally.{turns_at, turns_exceeded, with_tally};
 
 use crate::tags::{Tagged, place};
 use crate::tally::{EventOrWithdrawal, Numbers, Tally, Verdict};
@@ -70,6 +70,41 @@ fn push_down(tallies: &mut Vec<Tally>, more: &mut Numbers)
         add_more(tallies, *more);
         *more = Numbers::none();
     }
+}
+
+/// Whether one more name of this kind would exceed this announcement, before whose tag so many more names are than it counts,
+/// and which they do not exceed.
+fn would_exceed_one(tally: &Tally, more: &Numbers, kind: EventOrWithdrawal) -> bool
+    ensures { result ≡ turns_exceeded kind (with_more more.now tally.now) }
+{
+    let events = tally.events_before.saturating_add(more.events);
+    let withdrawn = tally.withdrawn_before.saturating_add(more.withdrawn);
+    let (most_events, most_withdrawn) = (tally.events as usize, tally.withdrawn as usize);
+    match kind {
+        EventOrWithdrawal::Event => events == most_events && withdrawn <= most_withdrawn,
+        EventOrWithdrawal::Withdrawal => withdrawn == most_withdrawn && events <= most_events,
+    }
+}
+
+/// Whether a new name of this tag would exceed this announcement, before whose tag so many more names are than it counts, and which they do
+/// not exceed.
+fn would_exceed_at(tally: &Tally, more: &Numbers, tag: Tag, kind: EventOrWithdrawal) -> bool
+    ensures { result ≡ turns_at kind tag (with_more more.now tally.now) }
+{
+    tag.is_before(tally.tag) && would_exceed_one(tally, more, kind)
+}
+
+/// Whether a new name of this tag would exceed one of these, before whose tags so many more names are than they count, and which is
+/// not exceeded.
+fn would_exceed_some(tallies: &[Tally], more: &Numbers, tag: Tag, kind: EventOrWithdrawal) -> bool
+    ensures { result ≡ list_any (turns_at kind tag) (map (with_more more.now) tallies.now) }
+{
+    for tally in tallies {
+        if would_exceed_at(tally, more, tag, kind) {
+            return true;
+        }
+    }
+    false
 }
 
 /// How many more names may be counted in all of these announcements before any verdict on one of them changes.
@@ -222,6 +257,16 @@ impl Block {
         }
     }
 
+    /// Whether a new name of this tag would exceed one of them that is not exceeded.
+    fn would_exceed(&self, tag: Tag, kind: EventOrWithdrawal) -> bool
+        ensures { result ≡ list_any (turns_at kind tag) self.now }
+    {
+        if self.spare.of(kind) > 0 {
+            return false;
+        }
+        would_exceed_some(&self.tallies, &self.more, tag, kind)
+    }
+
     /// Puts an announcement in its place. An `Err` changes nothing.
     fn insert(&mut self, tally: Tally) -> Result<(), AllocError>
         requires { AreInOrder self.old }
@@ -344,6 +389,18 @@ fn count_behind(
     }
 }
 
+/// Whether a new name of this tag would exceed an announcement of these blocks that is not exceeded.
+fn would_exceed_in(blocks: &[Block], tag: Tag, kind: EventOrWithdrawal) -> bool
+    ensures { result ≡ list_any (turns_at kind tag) (all_of blocks.now) }
+{
+    for block in blocks {
+        if block.would_exceed(tag, kind) {
+            return true;
+        }
+    }
+    false
+}
+
 /// Puts an announcement that comes last in its place. An `Err` changes nothing.
 fn put_last(blocks: &mut Vec<Block>, tally: Tally) -> Result<(), AllocError>
     requires some { AreSome blocks.old.items }
@@ -422,6 +479,15 @@ impl Announcements {
         ensures { result ≡ list_any (λ t. is_before tag t.tag) self.now }
     {
         first_beyond(&self.blocks, tag) < self.blocks.len()
+    }
+
+    /// Whether a new name of this tag would exceed one of them that is not exceeded.
+    pub(crate) fn would_exceed(&self, tag: Tag, kind: EventOrWithdrawal) -> bool
+        requires { AreInOrder self.now }
+        ensures { result ≡ list_any (turns_at kind tag) self.now }
+    {
+        let first = first_beyond(&self.blocks, tag);
+        would_exceed_in(&self.blocks[first..], tag, kind)
     }
 
     /// Whether none of them is beyond the tag, as the last one tells.

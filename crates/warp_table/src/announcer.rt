@@ -2,9 +2,9 @@
 //!
 //! Each announcement has how many names are before its tag. A new name is counted in the announcements beyond it
 //! (`announced.rt`), so that what comes in order of tag costs no pass over what came before.
-ghost use Rattle.std.specs.Prelude.{◌≡◌, ◌↔◌, ◌⊎◌, Contains, IfOk, IsTrue, OnOk, OnErr, false, length, map};
+ghost use Rattle.std.specs.Prelude.{◌≡◌, ◌↔◌, ◌⊎◌, Contains, IfOk, IsTrue, OnOk, OnErr, Some, false, length, map};
 ghost use Rattle.warp_table.specs.inner.Closed.{IsLastTag};
-ghost use Rattle.warp_table.specs.inner.Heard.{Announced, IsExceeded, IsHeardTo, earlier_of, nothing_heard};
+ghost use Rattle.warp_table.specs.inner.Heard.{Announced, IsExceeded, IsExceededBy, IsHeardTo, earlier_of, nothing_heard};
 ghost use Rattle.warp_table.specs.inner.Heard.{count_before as tags_before, with_tag};
 ghost use Rattle.warp_table.specs.inner.Tally.{tags_of, with_noted};
 
@@ -13,7 +13,7 @@ use crate::tag_log::TagLog;
 use crate::tally::{EventOrWithdrawal, Numbers, Tally, Verdict};
 use std::alloc::{AllocError, Global};
 use std::marker::Model;
-use warp_tag::Tag;
+use warp_tag::{OutOfMemory, Tag};
 
 /// The earlier one of a tag, if there is one, and another.
 pub(crate) fn earlier(one: Option<Tag>, other: Tag) -> Tag
@@ -156,6 +156,46 @@ impl Announcer {
         let has_doubled = tally.has_doubled(self.doubled);
         self.verdict = self.verdict.with(&tally).broken_where(has_doubled);
         Ok(())
+    }
+
+    /// Whether one more name of this kind would exceed an announcement, of an origin that broke none.
+    pub(crate) fn would_exceed(&self, tag: Tag, kind: EventOrWithdrawal) -> bool
+        ensures { IsTrue result ↔ (IsExceeded (with_noted kind tag self.now) × (¬ IsExceeded self.now)) }
+    {
+        !self.verdict.is_broken && self.announced.would_exceed(tag, kind)
+    }
+
+    /// Whether a second payload of a name would break an announcement, of an origin that broke none.
+    pub(crate) fn would_double(&self, tag: Tag) -> bool
+        ensures { IsTrue result ↔
+            (IsExceeded (record self.now { doubled = Some (earlier_of self.now.doubled tag) }) × (¬ IsExceeded self.now)) }
+    {
+        !self.verdict.is_broken && self.announced.has_beyond(earlier(self.doubled, tag))
+    }
+
+    /// Whether an announcement would be broken at once, of an origin that broke none. What is heard stays, also on an `Err`.
+    pub(crate) fn would_be_broken(
+        &mut self,
+        tag: Tag,
+        events: u32,
+        withdrawn: u32,
+    ) -> Result<bool, OutOfMemory>
+        ensures same { self.new ≡ self.old }
+        ensures broken { IfOk result (λ broken. IsTrue broken ↔ ((¬ IsExceeded self.old)
+            × IsExceededBy self.old (record { tag = tag; events = events; withdrawn = withdrawn }))) }
+    {
+        if self.verdict.is_broken {
+            return Ok(false);
+        }
+        let counts = self.counts_before(tag)?;
+        let tally = Tally {
+            tag,
+            events,
+            withdrawn,
+            events_before: counts.events,
+            withdrawn_before: counts.withdrawn,
+        };
+        Ok(tally.is_exceeded() || tally.has_doubled(self.doubled))
     }
 
     /// How many of its names are before the tag, of those that have an event or a withdrawal. They stay.

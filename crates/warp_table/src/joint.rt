@@ -9,7 +9,9 @@ ghost use Rattle.warp_table.specs.inner.Closed.{IsLastTag};
 ghost use Rattle.warp_table.specs.inner.Heard.{count_before};
 ghost use Rattle.warp_table.specs.inner.Joint.{IsLeastOf, all_tags, counted_in, doubled_in};
 ghost use Rattle.warp_table.specs.inner.Joint.{earlier_some, joint_noted};
-ghost use Rattle.warp_table.specs.inner.Tally.{AreInOrder, Counts, IsJudged, announcement_of, before_of};
+ghost use Rattle.warp_table.specs.inner.Tally.{AreInOrder, Counts, IsJudged, announcement_of, before_of, turns_at};
+ghost use Rattle.std.specs.List.{list_any};
+ghost use Rattle.warp_tag.specs.Moment.{is_before};
 
 use crate::announced::Announcements;
 use crate::announcer::{Announcer, earlier};
@@ -56,6 +58,22 @@ impl JointAnnouncer {
         ensures { self.new ≡ counted_in kind tag self.old }
     {
         self.announced.count_name(tag, kind, &mut self.verdict);
+    }
+
+    /// Whether one more name of this kind, of any origin, would exceed one that is not exceeded.
+    pub(crate) fn would_exceed(&self, tag: Tag, kind: EventOrWithdrawal) -> bool
+        requires { AreInOrder self.now.announced }
+        ensures { result ≡ list_any (turns_at kind tag) self.now.announced }
+    {
+        self.announced.would_exceed(tag, kind)
+    }
+
+    /// Whether one of them is beyond the tag.
+    pub(crate) fn has_beyond(&self, tag: Tag) -> bool
+        requires { AreInOrder self.now.announced }
+        ensures { result ≡ list_any (λ t. is_before tag t.tag) self.now.announced }
+    {
+        self.announced.has_beyond(tag)
     }
 
     /// Notes that a name of some origin has two payloads.

@@ -9,6 +9,7 @@
 mod announced;
 mod announcer;
 mod blocks;
+mod breaking;
 mod closing;
 mod honest_law;
 mod joint;

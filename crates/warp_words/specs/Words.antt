@@ -75,6 +75,10 @@ most_grace = 60000
 abbrev pub most_inputs : ℕ
 most_inputs = 256
 
+-- the most ticks that an event may be ahead, where that is bounded
+abbrev pub most_ahead : ℕ
+most_ahead = 1000000
+
 -- an option that is there or not
 abbrev pub flag : Text → Rule
 flag name = record (new_rule name) { long = Some name; action = Some SetTrue }
@@ -100,10 +104,11 @@ trace_command = with_rule (with_rule (new_app (codes "trace")) (wanted_word (cod
 
 -- `host` with PROGRAM, `--listen`, `--clients`, `--tokens`, `--allow-origin`, `--peer`, `--peer-tokens`, `--open`,
 -- `--until-input-ends`, `--operator`, `--journal`, `--sync`, `--site`, `--clock`, `--keep`, `--grace`, `--pause`,
--- `--tick` and `--inputs-a-tick`
+-- `--tick`, `--inputs-a-tick`, `--tick-always`, `--ahead`, `--seats`, `--seat-timeout`,
+-- `--seat-input` and `--strict`
 abbrev pub host_command : App
 host_command =
-    with_rule (with_rule (with_rule (with_rule (with_rule
+    with_rule (with_rule (with_rule (with_rule (with_rule (with_rule (with_rule (with_rule (with_rule (with_rule (with_rule
     (with_rule (with_rule (with_rule (with_rule (with_rule (with_rule (with_rule
     (with_rule (with_rule (with_rule (with_rule (with_rule (with_rule (with_rule (new_app (codes "host"))
     (wanted_word (codes "PROGRAM"))) (further_word (codes "listen"))) (further_number (codes "clients") most_clients))
@@ -112,7 +117,9 @@ host_command =
     (flag (codes "operator"))) (further_word (codes "journal"))) (further_word (codes "sync")))
     (further_word (codes "site"))) (further_number (codes "clock") most_hertz)) (further_word (codes "keep")))
     (further_number (codes "grace") most_grace)) (further_word (codes "pause"))) (further_word (codes "tick")))
-    (further_number (codes "inputs-a-tick") most_inputs)
+    (further_number (codes "inputs-a-tick") most_inputs)) (flag (codes "tick-always")))
+    (further_number (codes "ahead") most_ahead)) (further_word (codes "seats")))
+    (further_number (codes "seat-timeout") most_seconds)) (further_word (codes "seat-input"))) (flag (codes "strict"))
 
 -- `journal` with ACTION and FILE
 abbrev pub journal_command : App
@@ -134,8 +141,10 @@ warpd_command =
 -- tokens, the origins of pages that may connect, the peers, the file of tokens for peers, whether any address may be listened
 -- on without tokens, whether the host ends with its standard input, whether that has words of its operator, the file of the
 -- journal, when that is brought to the disk, the folder of its site, how many ticks a second its clock has, which origins it
--- keeps, for how many ticks a tick stays open, what its clock does behind a pause, the input that gets the ticks, and how many
--- inputs of an origin a tick takes
+-- keeps, for how many ticks a tick stays open, what its clock does behind a pause, the input that gets the ticks, how many
+-- inputs of an origin a tick takes, whether it ticks while nobody is there, how many ticks ahead events are taken, which
+-- origins have seats, for how many seconds one is kept for who is away, the input that is told of seats, and whether what
+-- would break an announcement is refused
 pub record HostTask : Type 0 where
   pub program : Text
   pub listen : Option Text
@@ -156,6 +165,12 @@ pub record HostTask : Type 0 where
   pub pause : Option Text
   pub tick : Option Text
   pub inputs_a_tick : Option ℕ
+  pub tick_always : Bool
+  pub ahead : Option ℕ
+  pub seats : Option Text
+  pub seat_timeout : Option ℕ
+  pub seat_input : Option Text
+  pub strict : Bool
 
 -- what the words may ask for: to run the program of this name; or over the program of the first name to play the schedule of
 -- the second; or to serve the program of this name at a port, for so many sessions, to tell how pulls ended or not, to bear so many
@@ -248,6 +263,12 @@ host_task found = option_map (λ program. HostProgram (record {
   pause = first_of (codes "pause") found;
   tick = first_of (codes "tick") found;
   inputs_a_tick = number_found (codes "inputs-a-tick") most_inputs found;
+  tick_always = is_set (codes "tick-always") found;
+  ahead = number_found (codes "ahead") most_ahead found;
+  seats = first_of (codes "seats") found;
+  seat_timeout = number_found (codes "seat-timeout") most_seconds found;
+  seat_input = first_of (codes "seat-input") found;
+  strict = is_set (codes "strict") found;
 })) (first_of (codes "PROGRAM") found)
 
 -- what `journal` asks for, of what was found for it: the words in the places of ACTION and FILE
@@ -302,6 +323,12 @@ task_of (Host job) = HostProgram (record {
   pause = option_map (λ word. word.now) job.pause;
   tick = option_map (λ word. word.now) job.tick;
   inputs_a_tick = job.inputs_a_tick;
+  tick_always = job.tick_always;
+  ahead = job.ahead;
+  seats = option_map (λ word. word.now) job.seats;
+  seat_timeout = job.seat_timeout;
+  seat_input = option_map (λ word. word.now) job.seat_input;
+  strict = job.strict;
 })
 task_of (Journal action file) = SeeJournal action.now file.now
 
@@ -316,4 +343,5 @@ IsInRange (ServeProgram program port sessions tells_pulls peer_timeout peers) =
     × IfSome peer_timeout (λ seconds. (1 ≤ seconds) × (seconds ≤ most_seconds))
 IsInRange (HostProgram task) =
     IsUpTo most_clients task.clients × IsUpTo most_hertz task.clock × IsUpTo most_grace task.grace × IsUpTo most_inputs task.inputs_a_tick
+    × IsUpTo most_ahead task.ahead × IsUpTo most_seconds task.seat_timeout
 IsInRange task = Unit {0}

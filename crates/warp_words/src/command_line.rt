@@ -88,6 +88,18 @@ const TICK: &str = "tick";
 
 const INPUTS_A_TICK: &str = "inputs-a-tick";
 
+const TICK_ALWAYS: &str = "tick-always";
+
+const AHEAD: &str = "ahead";
+
+const SEATS: &str = "seats";
+
+const SEAT_TIMEOUT: &str = "seat-timeout";
+
+const SEAT_INPUT: &str = "seat-input";
+
+const STRICT: &str = "strict";
+
 const ACTION: &str = "ACTION";
 
 const FILE: &str = "FILE";
@@ -98,7 +110,7 @@ const LAST_LISTENING_PORT: u64 = 65_535;
 /// The most sessions of a server.
 const MOST_SESSIONS: u64 = 16;
 
-/// The longest time that a peer may be silent, in seconds: a day.
+/// The longest time that a peer may be silent, or a seat be kept for who is away, in seconds: a day.
 const MOST_SECONDS: u64 = 86_400;
 
 /// The most clients of a host at a time.
@@ -112,6 +124,9 @@ const MOST_GRACE: u64 = 60_000;
 
 /// The most inputs of an origin that a tick takes.
 const MOST_INPUTS: u64 = 256;
+
+/// The most ticks that an event may be ahead, where that is bounded.
+const MOST_AHEAD: u64 = 1_000_000;
 
 /// What a part of a subcommand is.
 enum PartKind {
@@ -391,6 +406,42 @@ const HOST: Subcommand = Subcommand {
                 most: MOST_INPUTS,
             },
         },
+        Part {
+            name: TICK_ALWAYS,
+            help: host_help::TICK_ALWAYS_HELP,
+            kind: PartKind::Flag,
+        },
+        Part {
+            name: AHEAD,
+            help: host_help::AHEAD_HELP,
+            kind: PartKind::FurtherNumber {
+                value: "TICKS",
+                most: MOST_AHEAD,
+            },
+        },
+        Part {
+            name: SEATS,
+            help: host_help::SEATS_HELP,
+            kind: PartKind::FurtherWord { value: "ORIGINS" },
+        },
+        Part {
+            name: SEAT_TIMEOUT,
+            help: host_help::SEAT_TIMEOUT_HELP,
+            kind: PartKind::FurtherNumber {
+                value: "SECONDS",
+                most: MOST_SECONDS,
+            },
+        },
+        Part {
+            name: SEAT_INPUT,
+            help: host_help::SEAT_INPUT_HELP,
+            kind: PartKind::FurtherWord { value: "INPUT" },
+        },
+        Part {
+            name: STRICT,
+            help: host_help::STRICT_HELP,
+            kind: PartKind::Flag,
+        },
     ],
 };
 
@@ -592,6 +643,12 @@ fn host_job<'a>(alloc: Global, found: &ArgMatches<'a>) -> Result<Option<Job<'a>>
         pause: text(found, PAUSE),
         tick: text(found, TICK),
         inputs_a_tick: number(found, INPUTS_A_TICK, MOST_INPUTS),
+        tick_always: is_set(found, TICK_ALWAYS),
+        ahead: number(found, AHEAD, MOST_AHEAD),
+        seats: text(found, SEATS),
+        seat_timeout: number(found, SEAT_TIMEOUT, MOST_SECONDS),
+        seat_input: text(found, SEAT_INPUT),
+        strict: is_set(found, STRICT),
     })))
 }
 

@@ -42,12 +42,26 @@ Without --journal nothing is stored on disk.
 With --clock the host keeps origins, all or those of --keep: it alone announces for them, by its
 clock, so that outputs become final by themselves, and refuses what comes too late. Tick N is
 announced once the clock is past N and the grace. With --tick an input gets an event with the
-value N at each tick N while a client is there. A host with a clock follows no peer. To clients
-it has these words more:
+value N at each tick N while a client is there, or always with --tick-always. With --ahead an event
+that is further ahead of the clock is refused 19. A host that follows it takes records of what it
+keeps from it alone. To clients it has these words more:
 
   keeps               which origins it keeps: keeps all, or keeps O O ..
   clock               the tick, milliseconds since tick 0, ticks a second: clock N MS HERTZ
   send INPUT V [T]    an input at the tick T, or now if none is given: sent PLACE TIME MICROSTEP
+
+With --seats kept origins, all or those that are named, have a seat each: who sits there alone sends
+for such an origin. It is kept for who is away, and beside the journal in FILE.seats. The program is
+told by --seat-input: 2 O + 1 where somebody has the seat of origin O, 2 O where it is free again.
+
+  join                a seat: seat ORIGIN SECRET, or refused 20 if none is free
+  back SECRET         the seat again, on another connection: seat ORIGIN SECRET EVENTS PLACE
+  leave               it is free: left ORIGIN
+  free ORIGIN         with a token for all, that one is: freed ORIGIN
+  watch seats         who sits where, and each change: * seats ORIGIN free|taken|away ..
+
+With --strict a record or an announcement that would break an announcement of its origin, or of all,
+is refused 21, but what peers bring.
 
 Each PEER, another host or server, is followed for as long as the
 host runs: its records come in here. A host that runs another program is refused.
@@ -122,6 +136,21 @@ pub(crate) const TICK_HELP: &str = "The input, by name or number, that gets an e
 
 pub(crate) const INPUTS_A_TICK_HELP: &str =
     "How many inputs of an origin a tick takes, 1 to 256, 16 if not given";
+
+pub(crate) const TICK_ALWAYS_HELP: &str = "Tick, and announce, also while no client is there";
+
+pub(crate) const AHEAD_HELP: &str =
+    "How many ticks ahead of the clock an event may be (else any), 1 to 1000000";
+
+pub(crate) const SEATS_HELP: &str = "Which kept origins have seats: all or O,O,..";
+
+pub(crate) const SEAT_TIMEOUT_HELP: &str =
+    "For how long a seat is kept for who is away, 1 to 86400, 10 if not given";
+
+pub(crate) const STRICT_HELP: &str = "Refuse what would break an announcement, but of peers";
+
+pub(crate) const SEAT_INPUT_HELP: &str =
+    "The input, by name or number, that is told who has a seat";
 
 /// The texts on `host`.
 pub(crate) fn help() -> Help {

@@ -96,6 +96,18 @@ pub struct HostJob<'a> {
     pub tick: Option<&'a str>,
     /// How many inputs of an origin a tick takes, 1 to 256.
     pub inputs_a_tick: Option<u64>,
+    /// Whether it ticks also while no client is there.
+    pub tick_always: bool,
+    /// How many ticks ahead at most events are taken of what it keeps, 1 to 1,000,000.
+    pub ahead: Option<u64>,
+    /// The word that says which origins have seats.
+    pub seats: Option<&'a str>,
+    /// For how many seconds a seat is kept for who is away, 1 to 86,400.
+    pub seat_timeout: Option<u64>,
+    /// The word that names the input which is told who has a seat.
+    pub seat_input: Option<&'a str>,
+    /// Whether it refuses its own clients what would break an announcement.
+    pub strict: bool,
 }
 
 /// What `check` tells beside the line of what is in a program.

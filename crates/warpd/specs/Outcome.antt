@@ -45,7 +45,7 @@ use Rattle.warp_session.specs.declared.desk_session.SessionEnd.{SessionEnd}
 use Rattle.warp_session.specs.declared.desk_session.SessionEnd.TheVariants.{End, ReadFault, WriteFault, TooManyReads, NoMemory}
 use Rattle.warpd.specs.Gathered.{lacks_memory}
 use Rattle.warpd.specs.declared.outcome.Outcome.{Outcome}
-use Rattle.warpd.specs.declared.outcome.Outcome.TheVariants.{Done, Words, TooManyLanes, NoAddress, NotOpen, TooManyPeers, NoPeer, NoOrigin, Program, Schedule, ShownTokens, BadTokens, NoTokens, NoAction, NoSync, JournalInUse, NoJournal, OtherJournal, DamagedJournal, RefusedJournal, LostJournal, NoSite, LargeSite, NoClock, ClockWithPeers, NoKeep, NoPause, NoTick, NotKept, NoProgram, NoSchedule, Input, Output, Memory, Listen, Accept}
+use Rattle.warpd.specs.declared.outcome.Outcome.TheVariants.{Done, Words, TooManyLanes, NoAddress, NotOpen, TooManyPeers, NoPeer, NoOrigin, Program, Schedule, ShownTokens, BadTokens, NoTokens, NoAction, NoSync, JournalInUse, NoJournal, OtherJournal, DamagedJournal, RefusedJournal, LostJournal, NoSite, LargeSite, NoClock, NoKeep, NoPause, NoTick, NoSeats, NoSeatInput, OtherSeats, NotKept, NoProgram, NoSchedule, Input, Output, Memory, Listen, Accept}
 use Rattle.warpd.specs.declared.outcome.TokenFile.{TokenFile}
 use Rattle.warpd.specs.declared.outcome.TokenFile.TheVariants.{Clients, Peers}
 
@@ -75,10 +75,12 @@ status_of LostJournal = 4
 status_of NoSite = 4
 status_of LargeSite = 3
 status_of NoClock = 2
-status_of ClockWithPeers = 2
 status_of NoKeep = 2
 status_of NoPause = 2
 status_of NoTick = 2
+status_of NoSeats = 2
+status_of NoSeatInput = 2
+status_of OtherSeats = 3
 status_of (NotKept origin) = 3
 status_of NoProgram = 4
 status_of NoSchedule = 4
@@ -129,10 +131,12 @@ told_line LostJournal = codes "cannot write the journal\n"
 told_line NoSite = codes "cannot read the site\n"
 told_line LargeSite = codes "the site is too large\n"
 told_line NoClock = codes "that option wants --clock\n"
-told_line ClockWithPeers = codes "--clock and --peer do not go together\n"
 told_line NoKeep = codes "--keep is all or O,O,.. of the program's origins\n"
 told_line NoPause = codes "--pause is stand or jump\n"
 told_line NoTick = codes "--tick is an input of a kept origin\n"
+told_line NoSeats = codes "--seats is all or O,O,.. of kept origins\n"
+told_line NoSeatInput = codes "--seat-input is an input of a kept origin\n"
+told_line OtherSeats = codes "the file of seats has others\n"
 told_line (NotKept origin) = codes "cannot keep origin " ++ decimal origin ++ codes "\n"
 told_line NoProgram = codes "cannot read the program\n"
 told_line NoSchedule = codes "cannot read the schedule\n"
@@ -315,7 +319,8 @@ open_outcome open_fault.NoMemory = Memory
 -- the run ends so before a host begins for what is asked of kept origins and their clock, or for a log over which one can't be kept
 abbrev pub KeepsFromKeeping : Outcome → Type 0
 KeepsFromKeeping outcome =
-    (outcome ≡ NoClock) ⊎ (outcome ≡ ClockWithPeers) ⊎ (outcome ≡ NoKeep) ⊎ (outcome ≡ NoPause) ⊎ (outcome ≡ NoTick)
+    (outcome ≡ NoClock) ⊎ (outcome ≡ NoKeep) ⊎ (outcome ≡ NoPause) ⊎ (outcome ≡ NoTick) ⊎ (outcome ≡ NoSeats)
+    ⊎ (outcome ≡ NoSeatInput) ⊎ (outcome ≡ OtherSeats)
     ⊎ ((origin : ℕ) × (outcome ≡ NotKept origin))
 
 -- the run ends so before a host begins: for its words, its files of tokens, its journal, its site, what it keeps, or want of memory
@@ -338,10 +343,12 @@ hosting_outcome host_fault.System = Accept
 hosting_outcome host_fault.NoMemory = Memory
 hosting_outcome host_fault.Journal = LostJournal
 hosting_outcome (host_fault.NotKept origin) = NotKept origin
+hosting_outcome host_fault.OtherSeats = OtherSeats
 
 -- a host ends so behind its line: as a server does, since its journal could not be written any more, or since an origin can't be kept
 abbrev pub EndsHosting : Outcome → Type 0
-EndsHosting outcome = EndsServing outcome ⊎ (outcome ≡ LostJournal) ⊎ ((origin : ℕ) × (outcome ≡ NotKept origin))
+EndsHosting outcome = EndsServing outcome ⊎ (outcome ≡ LostJournal) ⊎ (outcome ≡ OtherSeats)
+    ⊎ ((origin : ℕ) × (outcome ≡ NotKept origin))
 
 -- Hosting ends so: its address can't be listened on, or there is no memory to say so, and nothing is done; or its line, which has
 -- the address that the system tells, can't be written; or that is written, and nothing else through these streams, whatever comes

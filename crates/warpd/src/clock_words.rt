@@ -4,10 +4,11 @@ ghost use Rattle.warpd.specs.Outcome.{KeepsFromHosting};
 
 use crate::host_words::or_memory;
 use crate::outcome::Outcome;
-use crate::telling::{tell_unkept, tell_word};
+use crate::telling::{tell_flag, tell_unkept, tell_word};
 use std::alloc::{AllocError, Global};
 use std::io::Eprint;
 use warp_clock::{Hertz, Pause};
+use warp_hub::MOST_ORIGINS;
 use warp_keep::Keeping;
 use warp_line::Timeline;
 use warp_machine::{ClockOptions, TickInput};
@@ -17,6 +18,12 @@ use warp_words::HostJob;
 
 /// How many inputs of an origin a tick takes where nothing is said.
 const DEFAULT_INPUTS: u32 = 16;
+
+/// For how many seconds a seat is kept for who is away where nothing is said.
+const DEFAULT_TIMEOUT: u32 = 10;
+
+/// A second, in microseconds.
+const SECOND: u64 = 1_000_000;
 
 /// An origin, or an input, has no more digits.
 const MOST_DIGITS: usize = 6;
@@ -32,6 +39,31 @@ pub(crate) struct ClockPlan {
     /// The word that names the input which gets the ticks.
     tick: Option<String>,
     most_inputs: u32,
+    is_always: bool,
+    ahead: Option<u32>,
+    seats: Option<SeatPlan>,
+}
+
+/// What is asked of seats.
+#[derive(Drop)]
+struct SeatPlan {
+    /// The origins that are to have one; all that may where none are named.
+    origins: Option<Vec<u32>>,
+    /// For how many seconds one is kept for who is away.
+    timeout: u32,
+    /// The word that names the input which is told of them.
+    input: Option<String>,
+}
+
+/// The seats that a host has.
+#[derive(Clone, Copy)]
+pub(crate) struct SeatsAsked {
+    /// Which origins have one, each at the place of its number.
+    pub(crate) offered: [bool; MOST_ORIGINS],
+    /// For how long one is kept for who is away, in microseconds.
+    pub(crate) timeout: u64,
+    /// The input that is told of them, if one is.
+    pub(crate) input: Option<TickInput>,
 }
 
 /// What a host keeps of its program's origins, and by which clock.
@@ -40,6 +72,7 @@ pub(crate) struct Kept {
     pub(crate) keeping: Keeping,
     pub(crate) clock: Option<ClockOptions>,
     pub(crate) most_inputs: u32,
+    pub(crate) seats: Option<SeatsAsked>,
 }
 
 /// What is asked of kept origins and their clock, if a clock is.
@@ -53,13 +86,10 @@ pub(crate) fn clock_of<X: Eprint>(
     let Some(hertz) = hertz_of(job.clock) else {
         return without_clock(rt, job);
     };
-    if let Some(peer) = job.peers.first() {
-        tell_word(rt, "--peer", *peer, "a host with a clock follows nobody");
-        return Err(Outcome::ClockWithPeers);
-    }
     let keep = keep_of(rt, alloc, job.keep)?;
     let pause = pause_of(rt, job.pause)?;
     let tick = or_memory(word_of(alloc, job.tick))?;
+    let seats = seats_of(rt, alloc, job)?;
     Ok(Some(ClockPlan {
         hertz,
         keep,
@@ -67,6 +97,9 @@ pub(crate) fn clock_of<X: Eprint>(
         pause,
         tick,
         most_inputs: number_or(job.inputs_a_tick, DEFAULT_INPUTS),
+        is_always: job.tick_always,
+        ahead: number_of(job.ahead),
+        seats,
     }))
 }
 
@@ -78,6 +111,14 @@ fn hertz_of(asked: Option<u64>) -> Option<Hertz> {
 /// So many ticks are a quarter of a second, or more, and one at least.
 fn quarter_of(hertz: Hertz) -> u32 {
     hertz.number().div_ceil(4)
+}
+
+/// This number, if one was found.
+fn number_of(found: Option<u64>) -> Option<u32> {
+    match found {
+        Some(number) => Some(u32::try_from(number).unwrap_or(u32::MAX)),
+        None => None,
+    }
 }
 
 /// This number, or that where none was found.
@@ -103,11 +144,15 @@ fn without_clock<X: Eprint>(rt: &X, job: &HostJob<'_>) -> Result<Option<ClockPla
     let Some((option, word)) = first_without(job) else {
         return Ok(None);
     };
-    tell_word(rt, option, word, "there is no --clock");
+    if word.is_empty() {
+        tell_flag(rt, option, "there is no --clock");
+    } else {
+        tell_word(rt, option, word, "there is no --clock");
+    }
     Err(Outcome::NoClock)
 }
 
-/// The first option that wants a clock, with its word; of a number no word is known.
+/// The first option that wants a clock, with its word: of a number none is known, and a flag has none.
 fn first_without<'a>(job: &HostJob<'a>) -> Option<(&'static str, &'a str)> {
     if let Some(word) = job.keep {
         return Some(("--keep", word));
@@ -123,6 +168,21 @@ fn first_without<'a>(job: &HostJob<'a>) -> Option<(&'static str, &'a str)> {
     }
     if job.inputs_a_tick.is_some() {
         return Some(("--inputs-a-tick", ".."));
+    }
+    if job.tick_always {
+        return Some(("--tick-always", ""));
+    }
+    if job.ahead.is_some() {
+        return Some(("--ahead", ".."));
+    }
+    if let Some(word) = job.seats {
+        return Some(("--seats", word));
+    }
+    if job.seat_timeout.is_some() {
+        return Some(("--seat-timeout", ".."));
+    }
+    if let Some(word) = job.seat_input {
+        return Some(("--seat-input", word));
     }
     None
 }
@@ -153,24 +213,82 @@ fn keep_of<X: Eprint>(
     ensures { IfErr result KeepsFromHosting }
 {
     let word = word.unwrap_or("all");
+    match or_memory(list_of(alloc, word))? {
+        Listed::All => Ok(None),
+        Listed::Origins(origins) => Ok(Some(origins)),
+        Listed::None => {
+            tell_word(rt, "--keep", word, "no list of origins");
+            Err(Outcome::NoKeep)
+        }
+    }
+}
+
+/// What a word says that lists origins.
+#[derive(Drop)]
+enum Listed {
+    /// All.
+    All,
+    /// These.
+    Origins(Vec<u32>),
+    /// It is no list.
+    None,
+}
+
+/// What this word lists.
+fn list_of(alloc: Global, word: &str) -> Result<Listed, AllocError> {
     if word == "all" {
-        return Ok(None);
+        return Ok(Listed::All);
     }
     let mut origins = Vec::new(alloc);
     for piece in word.as_bytes().split(|byte| *byte == b',') {
         let Some(origin) = decimal(piece) else {
-            tell_word(rt, "--keep", word, "no list of origins");
-            return Err(Outcome::NoKeep);
+            return Ok(Listed::None);
         };
-        or_memory(pushed(&mut origins, origin))?;
+        origins.push(origin)?;
     }
-    Ok(Some(origins))
+    Ok(Listed::Origins(origins))
 }
 
-/// Puts this behind the others.
-fn pushed(numbers: &mut Vec<u32>, number: u32) -> Result<(), AllocError> {
-    numbers.push(number)?;
-    Ok(())
+/// What is asked of seats, if some are: else nothing may be that wants them.
+fn seats_of<X: Eprint>(
+    rt: &X,
+    alloc: Global,
+    job: &HostJob<'_>,
+) -> Result<Option<SeatPlan>, Outcome>
+    ensures { IfErr result KeepsFromHosting }
+{
+    let Some(word) = job.seats else {
+        return without_seats(rt, job);
+    };
+    let origins = match or_memory(list_of(alloc, word))? {
+        Listed::All => None,
+        Listed::Origins(origins) => Some(origins),
+        Listed::None => {
+            tell_word(rt, "--seats", word, "no list of origins");
+            return Err(Outcome::NoSeats);
+        }
+    };
+    let input = or_memory(word_of(alloc, job.seat_input))?;
+    Ok(Some(SeatPlan {
+        origins,
+        timeout: number_or(job.seat_timeout, DEFAULT_TIMEOUT),
+        input,
+    }))
+}
+
+/// No seats are asked for: nor may anything be that wants them.
+fn without_seats<X: Eprint>(rt: &X, job: &HostJob<'_>) -> Result<Option<SeatPlan>, Outcome>
+    ensures { IfErr result KeepsFromHosting }
+{
+    if let Some(word) = job.seat_input {
+        tell_word(rt, "--seat-input", word, "there is no --seats");
+        return Err(Outcome::NoSeats);
+    }
+    if job.seat_timeout.is_some() {
+        tell_word(rt, "--seat-timeout", "..", "there is no --seats");
+        return Err(Outcome::NoSeats);
+    }
+    Ok(None)
 }
 
 /// The number that these digits spell, as it is written.
@@ -204,10 +322,15 @@ pub(crate) fn kept_of<X: Eprint>(
             keeping: Keeping::Nothing,
             clock: None,
             most_inputs: DEFAULT_INPUTS,
+            seats: None,
         });
     };
     let keeping = keeping_of(rt, &plan.keep, program)?;
     let tick = tick_of(rt, &plan.tick, &keeping, program, names)?;
+    let seats = match &plan.seats {
+        Some(asked) => Some(seats_asked(rt, asked, &keeping, tick, program, names)?),
+        None => None,
+    };
     Ok(Kept {
         keeping,
         clock: Some(ClockOptions {
@@ -215,8 +338,11 @@ pub(crate) fn kept_of<X: Eprint>(
             grace: plan.grace,
             pause: plan.pause,
             tick,
+            is_always: plan.is_always,
+            ahead: plan.ahead,
         }),
         most_inputs: plan.most_inputs,
+        seats,
     })
 }
 
@@ -276,6 +402,97 @@ fn input_of(word: &str, program: &Program, names: &[String]) -> Option<TickInput
         origin: input.origin,
         input: u32::try_from(number).unwrap_or(u32::MAX),
     })
+}
+
+/// The seats that are asked for: of kept origins, but for those that the host speaks for itself.
+fn seats_asked<X: Eprint>(
+    rt: &X,
+    plan: &SeatPlan,
+    keeping: &Keeping,
+    tick: Option<TickInput>,
+    program: &Program,
+    names: &[String],
+) -> Result<SeatsAsked, Outcome>
+    ensures { IfErr result KeepsFromHosting }
+{
+    let input = seat_input_of(rt, &plan.input, keeping, program, names)?;
+    let may = may_sit(keeping, tick, input, program);
+    let offered = match &plan.origins {
+        None => may,
+        Some(origins) => offered_of(rt, origins, &may)?,
+    };
+    Ok(SeatsAsked {
+        offered,
+        timeout: u64::from(plan.timeout) * SECOND,
+        input,
+    })
+}
+
+/// Which origins may have a seat: kept ones of the program, of which the host sends no events itself.
+fn may_sit(
+    keeping: &Keeping,
+    tick: Option<TickInput>,
+    input: Option<TickInput>,
+    program: &Program,
+) -> [bool; MOST_ORIGINS] {
+    let mut may = [false; MOST_ORIGINS];
+    for origin in 0..program.origins().min(MOST_ORIGINS as u32) {
+        may[origin as usize] = keeping.keeps(origin)
+            && !is_of(tick, origin)
+            && !is_of(input, origin);
+    }
+    may
+}
+
+/// Whether the input is one of this origin.
+fn is_of(input: Option<TickInput>, origin: u32) -> bool {
+    match input {
+        Some(input) => input.origin == origin,
+        None => false,
+    }
+}
+
+/// The flags of these origins, each of which may have a seat.
+fn offered_of<X: Eprint>(
+    rt: &X,
+    origins: &[u32],
+    may: &[bool; MOST_ORIGINS],
+) -> Result<[bool; MOST_ORIGINS], Outcome>
+    ensures { IfErr result KeepsFromHosting }
+{
+    let mut offered = [false; MOST_ORIGINS];
+    for origin in origins {
+        let place = *origin as usize;
+        if place >= MOST_ORIGINS || !may[place] {
+            let why = "one of them is not kept, or the host's own";
+            tell_word(rt, "--seats", "O,O,..", why);
+            return Err(Outcome::NoSeats);
+        }
+        offered[place] = true;
+    }
+    Ok(offered)
+}
+
+/// The input that is told of seats, if one is to: one of the program, of an origin that is kept.
+fn seat_input_of<X: Eprint>(
+    rt: &X,
+    word: &Option<String>,
+    keeping: &Keeping,
+    program: &Program,
+    names: &[String],
+) -> Result<Option<TickInput>, Outcome>
+    ensures { IfErr result KeepsFromHosting }
+{
+    let Some(word) = word else {
+        return Ok(None);
+    };
+    let why = match input_of(word.as_str(), program, names) {
+        None => "the program has no such input",
+        Some(found) if !keeping.keeps(found.origin) => "its origin is not kept",
+        Some(found) => return Ok(Some(found)),
+    };
+    tell_word(rt, "--seat-input", word.as_str(), why);
+    Err(Outcome::NoSeatInput)
 }
 
 /// Whether the origins may be kept over the log of this replica. The first that may not is told.

@@ -59,6 +59,8 @@ pub(crate) struct HostPlan {
     pub(crate) site: Site,
     /// What it keeps, and by which clock, if it has one.
     pub(crate) clock: Option<ClockPlan>,
+    /// Whether it refuses its own clients what would break an announcement.
+    pub(crate) is_strict: bool,
 }
 
 /// The address that the word names.
@@ -379,6 +381,7 @@ pub(crate) fn host_plan<X: Files + Eprint>(
         sync,
         site,
         clock,
+        is_strict: job.strict,
     })
 }
 

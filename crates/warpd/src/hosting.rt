@@ -9,21 +9,21 @@ use crate::outcome::{Outcome, TokenFile, outcome_of_hosting, outcome_of_journal}
 use crate::service::Host;
 use crate::stepping::{LastRow, Stepping};
 use crate::streams::Streams;
-use crate::telling::{tell_bad_tokens, tell_listen};
+use crate::telling::{tell_bad_tokens, tell_listen, tell_other_seats};
 use arrayvec::ArrayString;
 use mio::net::TcpListener;
 use std::alloc::{AllocError, Global};
-use std::hash::RandomState;
 use std::io::Eprint;
 use std::net::{self, IpAddr, Net, SocketAddr};
-use warp_disk::{FirstLines, OpenJournal, SyncWhen, open_journal};
-use warp_host::{ChannelUse, HostFault, Outside, begin, clients_within};
+use warp_disk::{FirstLines, OpenJournal, SyncWhen, open_journal, read_seats, tell_file_fault};
+use warp_host::{Begin, ChannelUse, HostFault, Outside, begin, clients_within};
 use warp_hub::{Facts, Tokens};
 use warp_journal::{first_line, old_first_line};
 use warp_line::Timeline;
-use warp_machine::{NoTokens, Options, PeerAt, Start, host_machine, read_tokens};
+use warp_machine::{NoTokens, Options, PeerAt, SeatOptions, Start, host_machine, read_tokens};
 use warp_pages::{Names, Site, Texts};
 use warp_replica::Replica;
+use warp_seats::Seats;
 use warp_session::{Sink, Source, write_all};
 use warp_step::Program;
 use warp_trace::Labels;
@@ -45,6 +45,9 @@ struct Prepared<T: Timeline> {
     names_json: Vec<u8>,
     site: Site,
     kept: Kept,
+    /// The text of seats that are kept, if some are.
+    seats: Option<Vec<u8>>,
+    is_strict: bool,
     origins: Vec<String>,
     address: SocketAddr,
     channel: ChannelUse,
@@ -186,6 +189,30 @@ fn tokens_of<X: Eprint>(
     })
 }
 
+/// The text of the seats that are kept beside the journal, where a host has seats and a journal. One that is of others is
+/// told.
+fn kept_seats<P: Host>(
+    rt: &P,
+    alloc: Global,
+    kept: &Kept,
+    journal: &Option<OpenJournal>,
+) -> Result<Option<Vec<u8>>, Outcome>
+    ensures { IfErr result KeepsFromHosting }
+{
+    let (Some(asked), Some(journal)) = (&kept.seats, journal) else {
+        return Ok(None);
+    };
+    let text = match read_seats(rt, alloc, journal) {
+        Ok(text) => text,
+        Err(fault) => return Err(outcome_of_journal(tell_file_fault(rt, "FILE.seats", fault))),
+    };
+    if Seats::read(&asked.offered, &text, 0).is_none() {
+        tell_other_seats(rt);
+        return Err(Outcome::OtherSeats);
+    }
+    Ok(Some(text))
+}
+
 /// All that a host needs of its program and its plan.
 fn prepare<P: Host, T: Timeline>(
     rt: &P,
@@ -219,6 +246,10 @@ fn prepare<P: Host, T: Timeline>(
     if let Err(outcome) = check_kept(rt, &kept.keeping, &replica) {
         return Err(outcome);
     }
+    let seats = match kept_seats(rt, alloc, &kept, &journal) {
+        Ok(seats) => seats,
+        Err(outcome) => return Err(outcome),
+    };
     Ok(Prepared {
         replica,
         facts: Facts {
@@ -228,6 +259,7 @@ fn prepare<P: Host, T: Timeline>(
             most_clients,
             tokens: lines,
             most_inputs: kept.most_inputs,
+            has_seats: kept.seats.is_some(),
         },
         labels,
         peers: plan.peers,
@@ -237,6 +269,8 @@ fn prepare<P: Host, T: Timeline>(
         names_json,
         site: plan.site,
         kept,
+        seats,
+        is_strict: plan.is_strict,
         origins: plan.origins,
         address: plan.address,
         channel: ChannelUse {
@@ -337,19 +371,18 @@ fn listened<
     }
 }
 
-/// What a host begins with beside what is prepared: the name of its address, its keys and the time.
+/// What a host begins with beside what is prepared: the name of its address, what nobody else knows, and the time.
 #[derive(Drop)]
 struct Beginning {
     own: ArrayString<64>,
-    keys: RandomState,
-    now: u64,
+    begin: Begin,
 }
 
 /// A host at this address begins now.
 fn make_beginning<P: Host>(rt: &P, alloc: Global, address: IpAddr) -> Result<Beginning, HostFault> {
-    let (keys, now) = begin(rt)?;
+    let begin = begin(rt)?;
     let own = own_name(alloc, address)?;
-    Ok(Beginning { own, keys, now })
+    Ok(Beginning { own, begin })
 }
 
 /// Hosts here.
@@ -360,8 +393,9 @@ fn host_on<
     ensures { EndsHosting result }
 {
     match make_beginning(rt, alloc, place.address.ip()) {
-        Ok(Beginning { own, keys, now }) => {
-            let (start, outside) = parted(prepared, place, own, keys);
+        Ok(Beginning { own, begin }) => {
+            let now = begin.now;
+            let (start, outside) = parted(prepared, place, own, begin);
             outcome_of_hosting(host_machine::<P, T, LastRow>(rt, alloc, start, now, outside))
         }
         Err(fault) => outcome_of_hosting(Err(fault)),
@@ -373,8 +407,9 @@ fn parted<T: Timeline>(
     prepared: Prepared<T>,
     place: Place,
     own: ArrayString<64>,
-    keys: RandomState,
+    begin: Begin,
 ) -> (Start<T>, Outside) {
+    let Begin { keys, secret, .. } = begin;
     let Place { listener, address } = place;
     let Prepared {
         replica,
@@ -387,6 +422,8 @@ fn parted<T: Timeline>(
         names_json,
         site,
         kept,
+        seats,
+        is_strict,
         origins,
         channel,
         journal,
@@ -410,6 +447,16 @@ fn parted<T: Timeline>(
         names_json,
         site,
     };
+    let seats = match kept.seats {
+        Some(asked) => Some(SeatOptions {
+            offered: asked.offered,
+            timeout: asked.timeout,
+            input: asked.input,
+            text: seats,
+            secret,
+        }),
+        None => None,
+    };
     let start = Start {
         keys,
         replica,
@@ -420,6 +467,8 @@ fn parted<T: Timeline>(
         options,
         keeping: kept.keeping,
         clock: kept.clock,
+        is_strict,
+        seats,
     };
     (start, outside)
 }

@@ -76,14 +76,18 @@ pub enum Outcome {
     LargeSite,
     /// An option that wants a clock, without one.
     NoClock,
-    /// A clock, and a peer to follow.
-    ClockWithPeers,
     /// What is to be kept is no list of the program's origins.
     NoKeep,
     /// What a clock is to do behind a pause is nothing that it does.
     NoPause,
     /// What is to get the ticks is no input of a kept origin.
     NoTick,
+    /// What is to have seats is no list of origins that may, or there are none for an option that wants them.
+    NoSeats,
+    /// What is to be told of seats is no input of a kept origin.
+    NoSeatInput,
+    /// The file of seats has others than are offered.
+    OtherSeats,
     /// Over the log this origin can't be kept.
     NotKept(u64),
     /// There is no program of this name, or its file couldn't be read.
@@ -115,8 +119,9 @@ pub fn status(outcome: Outcome) -> u8
         Outcome::OtherJournal | Outcome::DamagedJournal(_) | Outcome::RefusedJournal(_) => 3,
         Outcome::NoJournal | Outcome::LostJournal => 4,
         Outcome::NoSite => 4,
-        Outcome::LargeSite | Outcome::NotKept(_) => 3,
-        Outcome::NoClock | Outcome::ClockWithPeers => 2,
+        Outcome::LargeSite | Outcome::NotKept(_) | Outcome::OtherSeats => 3,
+        Outcome::NoSeats | Outcome::NoSeatInput => 2,
+        Outcome::NoClock => 2,
         Outcome::NoKeep | Outcome::NoPause | Outcome::NoTick => 2,
         Outcome::JournalInUse => 6,
         Outcome::ShownTokens(_) | Outcome::BadTokens(_, _) => 3,
@@ -157,10 +162,12 @@ pub fn say(outcome: Outcome) -> ArrayString<LONGEST_LINE>
         Outcome::NoSite => plain("cannot read the site\n"),
         Outcome::LargeSite => plain("the site is too large\n"),
         Outcome::NoClock => plain("that option wants --clock\n"),
-        Outcome::ClockWithPeers => plain("--clock and --peer do not go together\n"),
         Outcome::NoKeep => plain("--keep is all or O,O,.. of the program's origins\n"),
         Outcome::NoPause => plain("--pause is stand or jump\n"),
         Outcome::NoTick => plain("--tick is an input of a kept origin\n"),
+        Outcome::NoSeats => plain("--seats is all or O,O,.. of kept origins\n"),
+        Outcome::NoSeatInput => plain("--seat-input is an input of a kept origin\n"),
+        Outcome::OtherSeats => plain("the file of seats has others\n"),
         Outcome::NotKept(origin) => with_number("cannot keep origin ", origin),
         Outcome::NoProgram => plain("cannot read the program\n"),
         Outcome::NoSchedule => plain("cannot read the schedule\n"),
@@ -290,6 +297,7 @@ pub fn outcome_of_hosting(hosted: Result<(), HostFault>) -> Outcome
         Err(HostFault::NoMemory) => Outcome::Memory,
         Err(HostFault::Journal) => Outcome::LostJournal,
         Err(HostFault::NotKept(origin)) => Outcome::NotKept(u64::from(origin)),
+        Err(HostFault::OtherSeats) => Outcome::OtherSeats,
     }
 }
 

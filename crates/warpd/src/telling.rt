@@ -15,6 +15,11 @@ pub(crate) fn tell_word<X: Eprint>(rt: &X, option: &str, word: &str, why: &str) 
     let _ = eprintln!(rt; "{option} {word}: {why}");
 }
 
+/// Tells what is wrong with an option that has no word.
+pub(crate) fn tell_flag<X: Eprint>(rt: &X, option: &str, why: &str) {
+    let _ = eprintln!(rt; "{option}: {why}");
+}
+
 /// Tells what the system says of a file, or of a folder, of a site.
 pub(crate) fn tell_site<X: Eprint>(rt: &X, path: &str, error: &io::Error) {
     let _ = eprintln!(rt; "{path}: {error}");
@@ -24,6 +29,13 @@ pub(crate) fn tell_site<X: Eprint>(rt: &X, path: &str, error: &io::Error) {
 pub(crate) fn tell_unkept<X: Eprint>(rt: &X, origin: u32) {
     let _ = eprintln!(rt;
         "origin {origin} can't be kept: an announcement that speaks of it is broken, or a name of it has two payloads"
+    );
+}
+
+/// Tells that the file of seats has others than are offered.
+pub(crate) fn tell_other_seats<X: Eprint>(rt: &X) {
+    let _ = rt.eprintln(
+        "FILE.seats is no text of seats that are offered: name these, or remove it",
     );
 }
 

@@ -1,6 +1,6 @@
 -- What is kept of one origin beside what is heard of it: how many names are before each announcement, and what follows from
 -- that. For proofs alone.
-use Rattle.std.specs.Prelude.{◌≡◌, ◌⊎◌, ℕ, ◌+◌, ◌-◌, ◌<◌, ◌^◌, Bool, true, false, ◌&&◌, ◌||◌, nat_lt, nat_le, Option, Some, None, List, [], ◌∷◌, ◌++◌, length, fold, Contains, All, AllPairs, map, take, drop, if◌then◌else◌}
+use Rattle.std.specs.Prelude.{◌≡◌, ◌⊎◌, ℕ, ◌+◌, ◌-◌, ◌<◌, ◌^◌, Bool, true, false, ◌&&◌, ◌||◌, nat_lt, nat_le, not, Option, Some, None, List, [], ◌∷◌, ◌++◌, length, fold, Contains, All, AllPairs, map, take, drop, if◌then◌else◌}
 use Rattle.std.specs.List.{list_any, position_or_len}
 use Rattle.warp_tag.specs.Moment.{Moment, is_before}
 use Rattle.warp_table.specs.Announced.{beginning}
@@ -42,6 +42,14 @@ is_met tally = nat_le tally.events tally.events_before && nat_le tally.withdrawn
 -- more names are before its tag than the announcement says
 abbrev pub is_exceeded : Tally → Bool
 is_exceeded tally = nat_lt tally.events tally.events_before || nat_lt tally.withdrawn tally.withdrawn_before
+
+-- one more name of a kind before its tag is one too many, where none was
+abbrev pub turns_exceeded : EventOrWithdrawal → Tally → Bool
+turns_exceeded kind tally = is_exceeded (with_name kind tally) && not (is_exceeded tally)
+
+-- and a name at this tag is before its tag
+abbrev pub turns_at : EventOrWithdrawal → Moment → Tally → Bool
+turns_at kind tag tally = is_before tag tally.tag && turns_exceeded kind tally
 
 -- a tag of two payloads, if there is one, is before its tag
 abbrev pub has_doubled : Option Moment → Tally → Bool

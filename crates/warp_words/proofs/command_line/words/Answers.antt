@@ -8,7 +8,7 @@ use Rattle.clap.specs.Walk.{Row, Text}
 use Rattle.clap.specs.Simple.{App, argument_words, built, help_shape, subcommand_of}
 use Rattle.clap.specs.Faults.{fault_of}
 use Rattle.clap.specs.ValueTests.{is_unsigned_in}
-use Rattle.warp_words.specs.Words.{IsInRange, Task, last_listening_port, most_clients, most_grace, most_hertz, most_inputs, most_seconds, most_sessions, number_up_to, task_found, task_of, warpd_command}
+use Rattle.warp_words.specs.Words.{IsInRange, Task, last_listening_port, most_ahead, most_clients, most_grace, most_hertz, most_inputs, most_seconds, most_sessions, number_up_to, task_found, task_of, warpd_command}
 use Rattle.warp_words.specs.Words.{PlaySchedule, RunProgram, ServeProgram}
 use Rattle.clap.specs.Words.{first_of, subcommand_rows_of}
 use Rattle.warp_words.proofs.GivenArguments.{Gives, entered_gives, level_given}
@@ -135,6 +135,8 @@ found_in (Some (name, rows)) =
       number_in most_hertz (first_of (codes "clock") rows),
       number_in most_grace (first_of (codes "grace") rows),
       number_in most_inputs (first_of (codes "inputs-a-tick") rows),
+      number_in most_ahead (first_of (codes "ahead") rows),
+      number_in most_seconds (first_of (codes "seat-timeout") rows),
     )) (first_of (codes "PROGRAM") rows))
     (either (bytes_eq name (codes "journal")) _ _
     (by_two _ (λ one other. tt) (first_of (codes "ACTION") rows) (first_of (codes "FILE") rows)) tt))))))

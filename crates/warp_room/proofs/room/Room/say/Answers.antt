@@ -24,6 +24,7 @@ returns g c =
           made = c.self.inside.made.items;
           shown = c.self.inside.shown;
           keeping = c.self.inside.keeping;
+          rules = c.self.inside.rules;
           most_lines = c.self.inside.most_lines;
           most_answers = c.self.inside.most_answers;
         };

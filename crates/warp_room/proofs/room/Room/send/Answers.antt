@@ -2,7 +2,8 @@ use Rattle.std.proofs.Common.{◌+◌, min, sym}
 use Rattle.warp_step.specs.Program.{top_of}
 use Rattle.warp_keep.specs.Keeping.{keeps}
 use Rattle.warp_replica.specs.Answered.{facts_of}
-use Rattle.warp_room.proofs.OwnLines.{kept_here, sent_at, stamp_here, stamped_may, unsent_at}
+use Rattle.warp_room.specs.Rules.{IsPastTime}
+use Rattle.warp_room.proofs.OwnLines.{kept_here, past_here, sent_at, stamp_here, stamped_may, unsent_at}
 use Rattle.warp_room.proofs.room.Room.send.Goals as goal
 
 pub say-requires : goal.say-requires

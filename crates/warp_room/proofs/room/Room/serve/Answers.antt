@@ -15,7 +15,7 @@ invariant_of-self-2 g c =
     let one : AnsweredLine = record { who = c.in-Some.turn.who; said = c.in-Some.turn.line; answer = c.answer_or_keep_out-answer.result } in
     let made = more_made c.self.inside.made.items c.reserve.new.self.items c.push_back_reserved.new.self.items one
     c.reserve.ensures.items c.push_back_reserved.ensures.items in
-    let kept = kept_served facts (keeps c.self.inside.keeping) c.self.inside.replica r' c.self.inside.made.items one c.self.inside.shown c.self.inside.digest
+    let kept = kept_served facts (keeps c.self.inside.keeping) c.self.inside.rules c.self.inside.replica r' c.self.inside.made.items one c.self.inside.shown c.self.inside.digest
     c.self.invariant.0 c.self.invariant.1 c.self.invariant.2 c.self.invariant.3 c.answer_or_keep_out-answer.ensures in
     (subst (λ (l : List AnsweredLine). AreHeld r'.program r'.records l) (sym {A = List AnsweredLine} made) kept.0, kept.1, kept.2, kept.3)
 
@@ -48,6 +48,7 @@ returns-clause-served g c =
           made = made i;
           shown = c.self.inside.shown;
           keeping = c.self.inside.keeping;
+          rules = c.self.inside.rules;
           most_lines = c.self.inside.most_lines;
           most_answers = c.self.inside.most_answers;
         };

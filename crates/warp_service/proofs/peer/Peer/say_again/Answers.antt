@@ -11,7 +11,7 @@ returns-clause-hears c =
     record {
       goes = subst (λ (s : PeerState). Goes s.follower c.ask_again.new.self s.handed i.handed.items) c.self.view_is
           (goes_same i.follower c.ask_again.new.self i.handed.items i.handed.items (ap (λ (f : FollowState). f.next) c.ask_again.ensures.same)
-          (ap (λ (f : FollowState). f.missing) c.ask_again.ensures.same) refl);
+          (ap (λ (f : FollowState). f.missing) c.ask_again.ensures.same) (ap (λ (f : FollowState). f.keeps) c.ask_again.ensures.same) refl);
       stays = subst (λ (s : PeerState). Stays s.contact c.note_asked.new.self) c.self.view_is
           (stays_asked i.contact c.note_asked.new.self c.note_asked.ensures);
       told = ap (λ (s : PeerState). s.news.told_at) c.self.view_is;
