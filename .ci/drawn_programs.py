@@ -148,6 +148,19 @@ def program_of(dice):
     return {**made, "links": links, "inputs": inputs, "outputs": outputs}
 
 
+def begun(dice, program):
+    """The same, if it is of version 4, as one that goes on from another program."""
+    if program["version"] < 4:
+        return program
+    targets = [f"{it['name']}.{name}" for it in program["reactors"] for name in it["inputs"]]
+    targets += [f"{it['name']}.{each[0]}" for it in program["reactors"] for key in ("actions", "timers") for each in it.get(key, [])]
+    keys = {(dice.randint(0, STOP), dice.choice([0, 0, 1, 255]), dice.choice(targets)) for _ in range(dice.randint(0, 6))}
+    pending = [[*key, dice.choice(NUMBERS)] for key in sorted(keys)]
+    dice.shuffle(pending)
+    begin = {"pending": pending, "lost": dice.choice([0, 7, MOST]), "since": dice.choice([0, 900, 10**15])}
+    return {**program, "begin": {key: it for key, it in begin.items() if it or dice.random() < 0.5}}
+
+
 def events_of(dice, program, count=12):
     """Lines of events for the program's inputs, some of them late."""
     lines = []

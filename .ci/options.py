@@ -39,10 +39,10 @@ def constants():
 def commands():
     """The commands in their order, each with its parts: name, help, kind, what help calls its value, the greatest number."""
     text, named = (WORDS / "command_line.rt").read_text(), constants()
-    order = re.search(r"const SUBCOMMANDS: [^=]*= &\[([\w, ]+)\];", text)
+    order = re.search(r"const SUBCOMMANDS: [^=]*= &\[([\w,\s]+)\];", text)
     if not order:
         raise Strange("there is no SUBCOMMANDS")
-    for each in order[1].split(", "):
+    for each in re.findall(r"\w+", order[1]):
         block = re.search(rf'const {each}: Subcommand = Subcommand {{\n    name: "(\w+)",.*?\n}};', text, re.S)
         body = block[0].replace("PROGRAM_PART", "name: PROGRAM, help: PROGRAM_HELP, kind: PartKind::Word,")
         parts = re.findall(r"name: (\w+),\s*help: ([\w:]+),\s*kind: PartKind::(\w+)(?:\s*{\s*value: \"([^\"]*)\",?(?:\s*most: (\w+),)?\s*})?", body)

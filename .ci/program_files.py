@@ -40,4 +40,7 @@ def full_reactor(it):
 def canonical(program):
     """The text by which a program is known, as docs/reference/program_files.md describes it."""
     keys = ("version", "stop", "origins", "reactors", "links", "inputs", "outputs")
-    return json.dumps(filled(program, keys, reactors=full_reactor), separators=(",", ":"))
+    full = filled(program, keys, reactors=full_reactor)
+    if "begin" in program:
+        full["begin"] = {key: program["begin"].get(key, [] if key == "pending" else 0) for key in ("pending", "lost", "since")}
+    return json.dumps(full, separators=(",", ":"))

@@ -1,3 +1,4 @@
+pub mod Told
 pub mod Presence
 pub mod Cell
 pub mod Mixing

@@ -8,7 +8,7 @@ use Rattle.warp_body.specs.declared.place.Target.TheVariants.{Startup, Timer, Ac
 
 -- The places of a program: `startup`, each timer, each action and each port is absent, or present with one value. A port has
 -- the presence of its source: its own, or where a link without delay leads to it, that of the port from which it leads. And the
--- tag at which all this is.
+-- tag at which all this is, as a body is told it.
 pub record Presence : Type 0 where
   pub tag : Moment
   pub startup : Option ℤ

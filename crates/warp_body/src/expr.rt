@@ -32,7 +32,7 @@ pub enum Expr {
     /// The value of a cell of an array, which is a range of variables: the number of its first variable, how many there
     /// are, and the number of the cell, from 0. It is 0 where there is no cell with this number.
     At(u32, u32, Box<Expr>),
-    /// The time of the tag that is executed.
+    /// The time of the tag that is executed, counted from where the first program began.
     Time,
     /// Its microstep.
     Microstep,

@@ -18,6 +18,7 @@ mod place;
 mod shapes;
 mod slots;
 mod stmt;
+mod told_tag;
 mod wide;
 
 pub use code::Code;
@@ -25,3 +26,4 @@ pub use expr::{Expr, eval};
 pub use operator::{BinaryOperator, UnaryOperator};
 pub use place::{Places, Present, Sizes, Target, Vars};
 pub use stmt::{Stmt, Wish, Wishes, copy_body, fits, run_body, same_body};
+pub use told_tag::{LATEST_BEGINNING, ToldTag};

@@ -8,6 +8,7 @@ ghost use Rattle.warp_body.specs.Presence.{kind_of, number_of, target_before, is
 
 use crate::cell::write_cell;
 use crate::slots::{Slot, Slots};
+use crate::told_tag::ToldTag;
 use std::alloc::Global;
 use std::marker::Model;
 use warp_tag::{OutOfMemory, Tag};
@@ -182,7 +183,7 @@ impl Vars {
 /// All places share one count of moments.
 #[derive(Debug, Drop)]
 pub struct Present {
-    tag: Tag,
+    tag: ToldTag,
     moment: u64,
     startup: Slot,
     timers: Slots,
@@ -220,7 +221,7 @@ impl Present {
         let actions = Slots::new(alloc, places.actions)?;
         let ports = Slots::new(alloc, places.ports)?;
         Ok(Present {
-            tag: Tag::beginning_of(0),
+            tag: ToldTag::counted(0, Tag::beginning_of(0)),
             moment: 1,
             startup: Slot::empty(),
             timers,
@@ -230,8 +231,8 @@ impl Present {
         })
     }
 
-    /// The tag at which all this is.
-    pub fn tag(&self) -> Tag
+    /// The tag at which all this is, as a body is told it.
+    pub fn tag(&self) -> ToldTag
         ensures { result ≡ self.now.tag }
     {
         self.tag
@@ -277,9 +278,9 @@ impl Present {
         }
     }
 
-    /// Makes everything absent, at this tag.
+    /// Makes everything absent, at the tag that a body is told.
     #[inline(always)]
-    pub fn clear(&mut self, tag: Tag)
+    pub fn clear(&mut self, tag: ToldTag)
         ensures { self.new ≡ nothing_present tag (places_of self.old) self.old.sources }
     {
         self.tag = tag;

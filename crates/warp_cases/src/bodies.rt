@@ -13,7 +13,9 @@ use crate::lines::number_of;
 use crate::programs::program_of;
 use crate::transcript::Transcript;
 use std::alloc::{AllocError, Global};
-use warp_body::{Code, Places, Present, Sizes, Stmt, Target, Vars, Wishes, fits, run_body};
+use warp_body::{
+    Code, Places, Present, Sizes, Stmt, Target, ToldTag, Vars, Wishes, fits, run_body,
+};
 use warp_step::Program;
 use warp_tag::Tag;
 
@@ -116,7 +118,8 @@ impl Side {
     /// Sets a variable, or makes a target present, or all absent. Whether it could.
     fn put(&mut self, word: &str, number: u32, value: i64) -> bool {
         if word == "clear" {
-            self.present.clear(Tag::beginning_of(0));
+            self.present
+                .clear(ToldTag::counted(0, Tag::beginning_of(0)));
             return true;
         }
         if word == "set" {

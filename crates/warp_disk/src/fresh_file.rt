@@ -49,7 +49,7 @@ pub(crate) fn real_path<F: Files<File = File>>(
 }
 
 /// Brings the name of the file at this path to the disk.
-pub(crate) fn sync_folder<F: Files<File = File>>(files: &F, path: &str) -> Result<(), FileFault> {
+pub fn sync_folder<F: Files<File = File>>(files: &F, path: &str) -> Result<(), FileFault> {
     let folder = match Path::new(path).parent() {
         Some(folder) if !folder.as_str().is_empty() => File::open(files, folder)?,
         _ => File::open(files, ".")?,

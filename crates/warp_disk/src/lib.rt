@@ -18,7 +18,9 @@ mod writing;
 
 pub use bells::Bells;
 pub use durable::Durable;
-pub use fresh_file::{FreshFiles, JournalPlace, keep_aside, lock_file, refuse_special_file};
+pub use fresh_file::{
+    FreshFiles, JournalPlace, keep_aside, lock_file, refuse_special_file, sync_folder,
+};
 pub use handing::{Handing, MOST_BATCHES, Wanted};
 pub use journal_faults::{FileFault, OpenFault, tell_file_fault};
 pub use journal_file::{

@@ -7,6 +7,7 @@ use Rattle.std.proofs.Crossing.{crosses, Vec-send}
 use Rattle.warp_body.proofs.expr.Expr.TheLaws.TheKnot as expr
 use Rattle.warp_body.proofs.stmt.Stmt.TheLaws.TheKnot as stmt
 use Rattle.warp_line.specs.declared.timeline.Timeline as timeline
+use Rattle.warp_step.specs.contracts.begin.Begin as begin
 use Rattle.warp_step.specs.contracts.parts.Parts as parts
 use Rattle.warp_step.specs.contracts.program.Program as program
 use Rattle.warp_step.specs.contracts.program.Program.TheInside as program_inside
@@ -20,12 +21,16 @@ use Rattle.warp_lanes.proofs.executor_end.Lane.TheSendSync as lane_crosses
 use Rattle.warp_lanes.specs.contracts.engine.Engine as engine
 use Rattle.warp_lanes.specs.contracts.engine.Engine.TheInside as engine_inside
 
+-- where a program begins that goes on from another one
+begin_send : IsSend begin.the_row
+begin_send = search (crosses, sendable) depth 60 fits 20000
+
 -- a reaction holds expressions and statements, which hold themselves, and a program holds reactions
 reaction_send : IsSend reaction.the_row
 reaction_send = search (crosses, expr.crosses, stmt.crosses, sendable) depth 60 fits 20000
 
 parts_send : IsSend parts.the_row
-parts_send = search (crosses, reaction_send, sendable) depth 60 fits 20000
+parts_send = search (crosses, begin_send, reaction_send, sendable) depth 60 fits 20000
 
 program_send : IsSend program.the_row
 program_send = view_send _ _ _ _ _ (declared_send program_inside.the_type (parts_send, tt))

@@ -2,6 +2,7 @@ pub mod LiveLemmas
 pub mod ReplayLemmas
 pub mod RunLemmas
 pub mod ProgressLemmas
+pub mod CutLemmas
 pub mod PlainLemmas
 pub mod NextLemmas
 pub mod TableLemmas

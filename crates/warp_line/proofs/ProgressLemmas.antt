@@ -39,7 +39,7 @@ pub record Progress (P : Program) (entries rest : List Entry) (s : Snapshot) (ou
   pub past_front : IsTrue (past last (live front))
   pub later : IsTrue (list_all (λ e. is_after last e.tag) rest)
 
-all_after_none : (es : List Entry) → IsTrue (list_all (λ e. is_after None e.tag) es)
+pub all_after_none : (es : List Entry) → IsTrue (list_all (λ e. is_after None e.tag) es)
 all_after_none [] = refl
 all_after_none (e ∷ es) = all_after_none es
 
@@ -76,22 +76,22 @@ progress_end P entries s outs before now p quiet =
     )
 
 -- the live events of the table: of the front, of the first tag, and behind it
-parts : (entries front rest : List Entry) (n : ℕ) → entries ≡ front ++ rest → live entries ≡ live front ++ (live (take n rest) ++ live (drop n rest))
+pub parts : (entries front rest : List Entry) (n : ℕ) → entries ≡ front ++ rest → live entries ≡ live front ++ (live (take n rest) ++ live (drop n rest))
 parts entries front rest n whole =
     ap live whole ∙ live-append front rest
     ∙ ap (λ (xs : List Event). live front ++ xs) (ap live (sym (take-append-drop n rest)) ∙ live-append (take n rest) (drop n rest))
 
-longer : (entries front rest : List Entry) (n : ℕ) → entries ≡ front ++ rest → entries ≡ (front ++ take n rest) ++ drop n rest
+pub longer : (entries front rest : List Entry) (n : ℕ) → entries ≡ front ++ rest → entries ≡ (front ++ take n rest) ++ drop n rest
 longer entries front rest n whole =
     whole ∙ ap (λ (es : List Entry). front ++ es) (sym (take-append-drop n rest)) ∙ sym (append_assoc front (take n rest) (drop n rest))
 
-both_past : (last : Option Moment) (front part : List Entry) → IsTrue (past last (live front)) → IsTrue (past last (live part)) → IsTrue (past last (live (front ++ part)))
+pub both_past : (last : Option Moment) (front part : List Entry) → IsTrue (past last (live front)) → IsTrue (past last (live part)) → IsTrue (past last (live (front ++ part)))
 both_past last front part h k =
     let joined = list_all-append (λ (e : Event). not (is_after last e.tag)) (live front) (live part) in
     subst (λ (E : List Event). IsTrue (past last E)) (sym (live-append front part)) (grind (arith, nat_tests))
 
 -- where nothing is given no event is live
-none_given : (E : List Event) → nat_lt 0 (length (map given_of E)) ≡ false → E ≡ []
+pub none_given : (E : List Event) → nat_lt 0 (length (map given_of E)) ≡ false → E ≡ []
 none_given [] h = refl
 none_given (e ∷ E) h = let never : true ≡ false = grind (arith, nat_tests) in cc
 
@@ -127,14 +127,14 @@ given_after last t (e ∷ es) h same some =
     let one : is_same t e.tag ≡ true = grind (arith, nat_tests) in
     subst (λ (u : Moment). is_after last u ≡ true) (sym (same_is t e.tag one)) here
 
-waiting_after : (last : Option Moment) (t : Moment) (es : List Entry) (ws : List Waiting) → IsTrue (list_all (λ e. is_after last e.tag) es) → IsTrue (list_all (λ e. is_same t e.tag) es)
+pub waiting_after : (last : Option Moment) (t : Moment) (es : List Entry) (ws : List Waiting) → IsTrue (list_all (λ e. is_after last e.tag) es) → IsTrue (list_all (λ e. is_same t e.tag) es)
     → IsTrue (list_all (λ w. is_after last w.tag) ws) → is_waiting t (map given_of (live es)) ws ≡ true → is_after last t ≡ true
 waiting_after last t es ws h same k waiting = elim (cases_Bool (nat_lt 0 (length (map given_of (live es))))) [
   | inl some ↦ given_after last t es h same some
   | inr none ↦ let there : list_any (λ w. is_same w.tag t) ws ≡ true = grind (arith, nat_tests) in pending_after last t ws k there
 ]
 
-stood : (t : Moment) (G : List Event) (ws : List Waiting) → IsTrue (all_at t G) → is_waiting t (map given_of G) ws ≡ true → (stands t G || pends t ws) ≡ true
+pub stood : (t : Moment) (G : List Event) (ws : List Waiting) → IsTrue (all_at t G) → is_waiting t (map given_of G) ws ≡ true → (stands t G || pends t ws) ≡ true
 stood t G ws at waiting = elim (cases_Bool (nat_lt 0 (length (map given_of G)))) [
   | inl some ↦ let here = given_stands t G at some in grind (arith, nat_tests)
   | inr none ↦ let same = turned t ws in grind (arith, nat_tests)

@@ -72,7 +72,7 @@ all_at t E = list_all (λ e. is_same t e.tag) E
 abbrev pub behind : Moment → List Event → Bool
 behind t E = list_all (λ e. is_before t e.tag) E
 
-past_stands : (last : Option Moment) (u : Moment) (A : List Event) → IsTrue (past last A) → is_after last u ≡ true → stands u A ≡ false
+pub past_stands : (last : Option Moment) (u : Moment) (A : List Event) → IsTrue (past last A) → is_after last u ≡ true → stands u A ≡ false
 past_stands last u [] h a = refl
 past_stands last u (e ∷ es) h a =
     let old : is_after last e.tag ≡ false = grind (arith, nat_tests) in
@@ -103,11 +103,11 @@ behind_stands t u (e ∷ es) h s = elim (cases_Bool (is_same u e.tag)) [
       behind_stands t u es rest there
 ]
 
-stands-append : (u : Moment) (A B : List Event) → stands u (A ++ B) ≡ (stands u A || stands u B)
+pub stands-append : (u : Moment) (A B : List Event) → stands u (A ++ B) ≡ (stands u A || stands u B)
 stands-append u [] B = refl
 stands-append u (e ∷ es) B = let rest = stands-append u es B in grind (arith, nat_tests)
 
-none_pends : (t u : Moment) (ws : List Waiting) → IsTrue (none_before t ws) → pends u ws ≡ true → is_before u t ≡ false
+pub none_pends : (t u : Moment) (ws : List Waiting) → IsTrue (none_before t ws) → pends u ws ≡ true → is_before u t ≡ false
 none_pends t u [] h s = let never : false ≡ true = s in cc
 none_pends t u (w ∷ ws) h s = elim (cases_Bool (is_same u w.tag)) [
   | inl same ↦ grind (arith, nat_tests)

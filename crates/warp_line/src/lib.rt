@@ -4,6 +4,7 @@
 //! each change: the slow twin that other timelines are compared with.
 #![tactic(auto)]
 
+mod before;
 mod plain;
 mod progress;
 mod replay;
@@ -11,6 +12,7 @@ mod rework_law;
 mod sorted_names;
 mod timeline;
 
+pub use before::state_before;
 pub use plain::Plain;
 pub use progress::Progress;
 pub use rework_law::rework_is_bounded;

@@ -28,7 +28,7 @@ fn add_given(entry: &Entry, given: &mut Vec<Given>) -> Result<(), OutOfMemory>
 }
 
 /// Gathers what the first entries with this tag give, and says how many have it.
-fn gather(rest: &[Entry], tag: Tag, given: &mut Vec<Given>) -> Result<usize, OutOfMemory>
+pub(crate) fn gather(rest: &[Entry], tag: Tag, given: &mut Vec<Given>) -> Result<usize, OutOfMemory>
     ensures within { IfOk result (λ n. n ≤ length rest.now) }
     ensures here { IfOk result (λ n. IsTrue (list_all (λ e. is_same tag e.tag) (take n rest.now))) }
     ensures other { IfOk result (λ n. HasOtherHead tag (drop n rest.now)) }
@@ -45,7 +45,7 @@ fn gather(rest: &[Entry], tag: Tag, given: &mut Vec<Given>) -> Result<usize, Out
 }
 
 /// The earlier of the first entry's tag and the least pending one, if there is one.
-fn next_tag(rest: &[Entry], pending: Option<Tag>) -> Option<Tag>
+pub(crate) fn next_tag(rest: &[Entry], pending: Option<Tag>) -> Option<Tag>
     ensures { result ≡ next_of rest.now pending }
 {
     let Some(entry) = rest.first() else {
@@ -77,7 +77,7 @@ fn is_due(state: &State, tag: Tag, given: &[Given]) -> bool
 }
 
 /// A step at the tag, if something is given or pending there.
-fn advance<M: Meter>(
+pub(crate) fn advance<M: Meter>(
     program: &Program,
     state: &mut State,
     scratch: &mut Scratch,
@@ -105,7 +105,7 @@ fn advance<M: Meter>(
 }
 
 /// The entries behind the first so many.
-fn skip(entries: &[Entry], count: usize) -> &[Entry]
+pub(crate) fn skip(entries: &[Entry], count: usize) -> &[Entry]
     requires { count ≤ length entries.now }
     ensures { result.now ≡ drop count entries.now }
 {

@@ -29,6 +29,7 @@ use Rattle.warp_prog.specs.declared.file.LinkPart.{LinkPart}
 use Rattle.warp_prog.specs.declared.file.InputPart.{InputPart}
 use Rattle.warp_prog.specs.declared.scope.Before.{Before}
 use Rattle.warp_prog.proofs.ArrayLemmas.{arrays_fit}
+use Rattle.warp_prog.proofs.Begins.{begin-right}
 use Rattle.warp_prog.proofs.Stands.{Stands, reactor-there}
 use Rattle.warp_prog.proofs.Ranges.{all-pass, all-since, all-both, all-joined, in-range}
 use Rattle.warp_prog.proofs.Rules.{reaction-fits}
@@ -179,8 +180,8 @@ module _ (f : File) (h : IsFaultless f) where
   rules : list_all (rule_fits (numbered f)) (numbered f).reactions ≡ true
   rules =
       let P : Program = numbered f in
-      let unknown = or_parts _ _ (or_parts _ _ (or_parts _ _ (or_parts _ _ h.names).0).0).0 in
-      let twice = or_parts _ _ (or_parts _ _ (or_parts _ _ (or_parts _ _ h.twice).0).0).0 in
+      let unknown = or_parts _ _ (or_parts _ _ (or_parts _ _ (or_parts _ _ (or_parts _ _ h.names).0).0).0).0 in
+      let twice = or_parts _ _ (or_parts _ _ (or_parts _ _ (or_parts _ _ (or_parts _ _ h.twice).0).0).0).0 in
       let names = all-fail (λ r. list_any (reaction_unknown r) r.reactions) f.reactors unknown.0 in
       let once = all-fail (λ r. repeats bytes_eq (all_names r)) f.reactors twice.1 in
       let declared = all-fail (λ r. list_any (reaction_undeclared r) r.reactions) f.reactors h.declared in
@@ -216,10 +217,10 @@ module _ (f : File) (h : IsFaultless f) where
   links =
       let parts = or_parts _ _ (limits_kept f h.limits).parts in
       let delays = (or_parts _ _ parts.0).1 in
-      let u3 = or_parts _ _ h.names in
+      let u3 = or_parts _ _ (or_parts _ _ h.names).0 in
       let u2 = or_parts _ _ u3.0 in
       let u1 = or_parts _ _ u2.0 in
-      let t3 = or_parts _ _ h.twice in
+      let t3 = or_parts _ _ (or_parts _ _ h.twice).0 in
       let t2 = or_parts _ _ t3.0 in
       let t1 = or_parts _ _ (or_parts _ _ t2.0).0 in
       let known = all-pass (λ (l : LinkPart). is_output f.reactors l.source && is_input f.reactors l.target) f.links u1.1 in
@@ -247,9 +248,9 @@ module _ (f : File) (h : IsFaultless f) where
 
   outputs : (list_all (λ n. has (numbered f).ports n (λ p. not p.is_input)) (numbered f).outputs && is_distinct (numbered f).outputs) ≡ true
   outputs =
-      let t3 = or_parts _ _ h.twice in
+      let t3 = or_parts _ _ (or_parts _ _ h.twice).0 in
       let t1 = or_parts _ _ (or_parts _ _ (or_parts _ _ t3.0).0).0 in
-      let known = all-pass (is_output f.reactors) f.outputs (or_parts _ _ h.names).1 in
+      let known = all-pass (is_output f.reactors) f.outputs (or_parts _ _ (or_parts _ _ h.names).0).1 in
       and_from _ _
       (all-map (source_number f.reactors) (λ n. has (numbered f).ports n (λ p. not p.is_input)) (is_output f.reactors) (λ p e. output-fits f t1.0 p e) f.outputs known)
       (outputs-distinct f t1.0 known t3.1)
@@ -262,14 +263,14 @@ module _ (f : File) (h : IsFaultless f) where
       let links = list_any (link_unknown f.reactors) f.links in
       let inputs = list_any (λ (i : InputPart). not (is_input f.reactors i.port)) f.inputs in
       let outputs = list_any (λ p. not (is_output f.reactors p)) f.outputs in
-      let u3 = or_parts (reactions || texts || links || inputs) outputs h.names in
+      let u3 = or_parts (reactions || texts || links || inputs) outputs (or_parts _ _ h.names).0 in
       let u2 = or_parts (reactions || texts || links) inputs u3.0 in
       let u1 = or_parts (reactions || texts) links u2.0 in
       let own = repeats bytes_eq (reactor_names f.reactors) in
       let within = list_any (λ (r : ReactorPart). repeats bytes_eq (all_names r)) f.reactors in
       let called = list_any texts_twice f.reactors in
       let fed = repeats same_port (targets f.links f.inputs) in
-      let t4 = or_parts (own || within || called || fed) (repeats same_port f.outputs) h.twice in
+      let t4 = or_parts (own || within || called || fed) (repeats same_port f.outputs) (or_parts _ _ h.twice).0 in
       let t3 = or_parts (own || within || called) fed t4.0 in
       let t2 = or_parts (own || within) called t3.0 in
       let t1 = or_parts own within t2.0 in
@@ -300,4 +301,6 @@ module _ (f : File) (h : IsFaultless f) where
   -- the program is valid
   pub fits-together : is_valid (numbered f) ≡ true
   fits-together =
-      and_from _ _ (and_from _ _ (and_from _ _ (and_from _ _ (and_from _ _ within of-reactors) (and_from _ _ rules (rising-each f.reactors (file_front f)).1)) links) outputs) in-order
+      and_from _ _
+      (and_from _ _ (and_from _ _ (and_from _ _ (and_from _ _ (and_from _ _ within of-reactors) (and_from _ _ rules (rising-each f.reactors (file_front f)).1)) links) outputs) in-order)
+      (begin-right f h.limits stands)

@@ -12,6 +12,7 @@ pub mod Numbers
 pub mod LabelLemmas
 pub mod AccountLemmas
 pub mod Ranges
+pub mod Begins
 pub mod Bodies
 pub mod Distinct
 pub mod Rules

@@ -21,11 +21,11 @@ none false stop origins begin lists totals parts timers work h = sym h
 pub some_other : (f : File) → others_exceed f ≡ true → true ≡ exceeds_limits f
 some_other f h =
     some (is_outside (pos first_version) (pos last_version) f.version) (is_outside (pos 0) (pos (longest_stop (file_form f))) f.stop)
-    (is_outside (pos 1) (pos (most_origins (file_form f))) f.origins) (begin_exceeds f.begin) (lists_exceed f) (totals_exceed (file_form f) f.reactors) (parts_exceed f)
+    (is_outside (pos 1) (pos (most_origins (file_form f))) f.origins) (begin_exceeds (file_form f) f.stop f.begin) (lists_exceed f) (totals_exceed (file_form f) f.reactors) (parts_exceed f)
     (timers_exceed f) (work_exceeds f) h
 
 pub no_other : (f : File) → others_exceed f ≡ false → is_outside (pos first_version) (pos last_version) f.version ≡ exceeds_limits f
 no_other f h =
     none (is_outside (pos first_version) (pos last_version) f.version) (is_outside (pos 0) (pos (longest_stop (file_form f))) f.stop)
-    (is_outside (pos 1) (pos (most_origins (file_form f))) f.origins) (begin_exceeds f.begin) (lists_exceed f) (totals_exceed (file_form f) f.reactors) (parts_exceed f)
+    (is_outside (pos 1) (pos (most_origins (file_form f))) f.origins) (begin_exceeds (file_form f) f.stop f.begin) (lists_exceed f) (totals_exceed (file_form f) f.reactors) (parts_exceed f)
     (timers_exceed f) (work_exceeds f) h

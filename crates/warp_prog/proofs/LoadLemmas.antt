@@ -5,11 +5,12 @@ use Rattle.serde_json.specs.Data.{Data}
 use Rattle.warp_step.specs.Program.{Program}
 use Rattle.warp_prog.specs.File.{File}
 use Rattle.warp_prog.specs.Shape.{file_of}
-use Rattle.warp_prog.specs.Reading.{longest_file, json_of, shaped, spelled, reading_of}
+use Rattle.warp_prog.specs.Reading.{longest_begun, most_for, json_of, shaped, spelled, reading_of}
 use Rattle.warp_prog.specs.Version.{first_version, second_version, third_version, last_version}
 use Rattle.warp_prog.specs.Load.{IsFirst, IsFaultless, IsFaulty, IsFaultyFile, IsLoaded, IsRefused}
 use Rattle.warp_prog.specs.inner.Cause.{IsCause}
 use Rattle.warp_prog.specs.Numbered.{numbered}
+use Rattle.warp_prog.proofs.ReadingLemmas.{most_few}
 use Rattle.warp_prog.specs.declared.error.LoadError.{LoadError}
 use Rattle.warp_prog.specs.declared.error.LoadError.TheVariants.{Json, Shape, Limit, Name, Twice, Backward, Causality, Undeclared, Memory}
 
@@ -27,31 +28,38 @@ spelled-ok None f h = absurd (cc)
 spelled-ok (Some v) f h = (v, refl, shaped-ok (file_of v) f h)
 
 -- bytes that are not too many are read as their value
-reads-value : (bytes : List ℕ) (r : Result File LoadError) → reading_of bytes ≡ r → nat_lt longest_file (length bytes) ≡ false → spelled (json_of bytes) ≡ r
+reads-value : (bytes : List ℕ) (r : Result File LoadError) → reading_of bytes ≡ r → nat_lt (most_for bytes) (length bytes) ≡ false → spelled (json_of bytes) ≡ r
 unfolding reading_of
-reads-value bytes r h few = sym (cond-false (nat_lt longest_file (length bytes)) (Err Limit) (spelled (json_of bytes)) few) ∙ h
+reads-value bytes r h few = sym (cond-false (nat_lt (most_for bytes) (length bytes)) (Err Limit) (spelled (json_of bytes)) few) ∙ h
 
-reads-limit : (bytes : List ℕ) (r : Result File LoadError) → reading_of bytes ≡ r → nat_lt longest_file (length bytes) ≡ true → Err Limit ≡ r
+reads-limit : (bytes : List ℕ) (r : Result File LoadError) → reading_of bytes ≡ r → nat_lt (most_for bytes) (length bytes) ≡ true → Err Limit ≡ r
 unfolding reading_of
-reads-limit bytes r h many = sym (cond-true (nat_lt longest_file (length bytes)) (Err Limit) (spelled (json_of bytes)) many) ∙ h
+reads-limit bytes r h many = sym (cond-true (nat_lt (most_for bytes) (length bytes)) (Err Limit) (spelled (json_of bytes)) many) ∙ h
 
 -- what is read as a file is a value that is one
 pub read-file : (bytes : List ℕ) (f : File) → reading_of bytes ≡ Ok f →
-    (length bytes ≤ longest_file) × (v : Data) × (json_of bytes ≡ Some v) × (file_of v ≡ Some f)
+    (length bytes ≤ most_for bytes) × (v : Data) × (json_of bytes ≡ Some v) × (file_of v ≡ Some f)
 read-file bytes f h =
-    elim (cases_Bool (nat_lt longest_file (length bytes))) [
+    elim (cases_Bool (nat_lt (most_for bytes) (length bytes))) [
       | inl many ↦ (let e = reads-limit bytes (Ok f) h many in absurd (cc))
       | inr few ↦
           (let spelled = spelled-ok (json_of bytes) f (reads-value bytes (Ok f) h few) in
-          (ltb-false longest_file (length bytes) few, spelled.0, spelled.1, spelled.2))
+          (ltb-false (most_for bytes) (length bytes) few, spelled.0, spelled.1, spelled.2))
     ]
+
+-- and so they are not too many for any
+pub read-short : (bytes : List ℕ) (f : File) → reading_of bytes ≡ Ok f → length bytes ≤ longest_begun
+read-short bytes f h =
+    let own = (read-file bytes f h).0 in
+    let most = most_few bytes in
+    omega (arith, own, most)
 
 -- what is no file has no lower fault
 first-shape : (o : Option File) → o ≡ None → IsFirst o 2
 first-shape None h = (refl, λ j l. ne_eqb j 2 (λ e. omega arith))
 first-shape (Some f) h = absurd (cc)
 
-refused-value : (bytes : List ℕ) (o : Option Data) (e : LoadError) → length bytes ≤ longest_file → json_of bytes ≡ o → spelled o ≡ Err e → IsRefused bytes e
+refused-value : (bytes : List ℕ) (o : Option Data) (e : LoadError) → length bytes ≤ most_for bytes → json_of bytes ≡ o → spelled o ≡ Err e → IsRefused bytes e
 refused-value bytes None e few j h = subst (IsRefused bytes) (let own : Json ≡ e = cc in own) (few, j)
 refused-value bytes (Some v) e few j h =
     let none = shaped-err (file_of v) e h in
@@ -60,14 +68,14 @@ refused-value bytes (Some v) e few j h =
 -- what reading finds is why the bytes are refused
 pub read-fault : (bytes : List ℕ) (e : LoadError) → reading_of bytes ≡ Err e → IsRefused bytes e
 read-fault bytes e h =
-    elim (cases_Bool (nat_lt longest_file (length bytes))) [
+    elim (cases_Bool (nat_lt (most_for bytes) (length bytes))) [
       | inl many ↦ (let r : Err Limit ≡ Err e = reads-limit bytes (Err e) h many in
-          subst (IsRefused bytes) (let own : Limit ≡ e = cc in own) (inl (ltb-true longest_file (length bytes) many)))
-      | inr few ↦ refused-value bytes (json_of bytes) e (ltb-false longest_file (length bytes) few) refl (reads-value bytes (Err e) h few)
+          subst (IsRefused bytes) (let own : Limit ≡ e = cc in own) (inl (ltb-true (most_for bytes) (length bytes) many)))
+      | inr few ↦ refused-value bytes (json_of bytes) e (ltb-false (most_for bytes) (length bytes) few) refl (reads-value bytes (Err e) h few)
     ]
 
--- and where it finds none, memory was wanting for bytes that are not too many
-pub not-read : (bytes : List ℕ) (e : LoadError) → (¬ (e ≡ Memory) → reading_of bytes ≡ Err e) → (e ≡ Memory → length bytes ≤ longest_file) → IsRefused bytes e
+-- and where it finds none, memory was wanting for bytes that are not too many for any file
+pub not-read : (bytes : List ℕ) (e : LoadError) → (¬ (e ≡ Memory) → reading_of bytes ≡ Err e) → (e ≡ Memory → length bytes ≤ longest_begun) → IsRefused bytes e
 not-read bytes Json h m = read-fault bytes Json (h (λ e. cc))
 not-read bytes Shape h m = read-fault bytes Shape (h (λ e. cc))
 not-read bytes Limit h m = read-fault bytes Limit (h (λ e. cc))
@@ -86,7 +94,7 @@ loaded bytes f P h faultless e = let read = read-file bytes f h in (read.0, read
 pub first-fault : (bytes : List ℕ) (f : File) (e : LoadError) → reading_of bytes ≡ Ok f → IsCause f e → IsRefused bytes e
 first-fault bytes f e h first = by e first
   where
-    read : (length bytes ≤ longest_file) × (v : Data) × (json_of bytes ≡ Some v) × (file_of v ≡ Some f)
+    read : (length bytes ≤ most_for bytes) × (v : Data) × (json_of bytes ≡ Some v) × (file_of v ≡ Some f)
     read = read-file bytes f h
 
     faulty : (k : ℕ) → IsFirst (Some f) k → IsFaulty bytes k
@@ -109,4 +117,4 @@ first-fault bytes f e h first = by e first
           | inr (inr last) ↦ inr (inr (faulty-file last_version 6 (cause.0, last)))
         ]
     by Undeclared first = faulty 7 first
-    by Memory cause = read.0
+    by Memory cause = read-short bytes f h

@@ -2,14 +2,15 @@
 use Rattle.std.proofs.Common.{◌≡◌, List, [], ◌∷◌, ◌++◌, ℕ, ◌+◌, ◌<◌, ◌≤◌, length, map, drop, take, get_or, false, bytes_eq, ap, sym, subst, ◌∙◌, refl, arith, unsigned_abs}
 use Rattle.std.specs.Bool.{if◌then◌else◌}
 use Rattle.std.specs.List.{list_any}
-use Rattle.std.proofs.lemmas.Bool.{cond-false, or_parts}
+use Rattle.std.proofs.lemmas.Bool.{cond-false, cond-true, or_parts}
 use Rattle.std.proofs.lemmas.List.{append_assoc, append-nil, at_drop_more, drop_all, map-append, map_more}
 use Rattle.warp_body.specs.declared.place.Target.{Target}
+use Rattle.warp_body.specs.declared.place.Target.TheVariants as to
 use Rattle.warp_body.specs.Effect.{Then, body_of}
 use Rattle.warp_step.specs.Valid.{names}
 use Rattle.warp_step.specs.declared.parts.Variable.{Variable}
 use Rattle.warp_prog.specs.File.{Word, ReactorPart}
-use Rattle.warp_prog.specs.Numbered.{cell_with, cells_in, starts_with, numbered_statement, numbered_body, in_each, once_after, past, place_among, port_number}
+use Rattle.warp_prog.specs.Numbered.{cell_with, cells_in, starts_with, numbered_statement, numbered_body, in_each, once_after, past, place_among, port_number, readable, target_from}
 use Rattle.warp_prog.specs.View.{array_tree, start_tree, statement_tree, body_tree, reactor_tree}
 use Rattle.warp_prog.specs.inner.Room.{HasRoom, HaveRoom, its_loops_exceed}
 use Rattle.warp_prog.specs.declared.file.Array.{Array}
@@ -73,6 +74,28 @@ port_more number b rs i r p within here other =
     sym (cond-false (bytes_eq p.reactor r.name) (number b (reactor_tree r) p.port) (rest r) other)
     ∙ ap (λ (s : Reactor). if bytes_eq p.reactor s.name then number b (reactor_tree s) p.port else rest s) here
     ∙ sym (at_drop_more (λ ss. port_number number b (map reactor_tree ss) p) rs i r within)
+
+-- the same of what a reference names that may be pending
+pub target_more : (b : Before) (rs : List Reactor) (i : ℕ) (r : Reactor) (p : PortName) → i < length rs → r ≡ get_or rs i r
+    → bytes_eq p.reactor r.name ≡ false
+    → target_from (past b (reactor_tree r)) (map reactor_tree (drop (i + 1) rs)) p ≡ target_from b (map reactor_tree (drop i rs)) p
+target_more b rs i r p within here other =
+    let rest = λ (s : Reactor). target_from (past b (reactor_tree s)) (map reactor_tree (drop (i + 1) rs)) p in
+    sym (cond-false (bytes_eq p.reactor r.name) (readable b (reactor_tree r) p.port) (rest r) other)
+    ∙ ap (λ (s : Reactor). if bytes_eq p.reactor s.name then readable b (reactor_tree s) p.port else rest s) here
+    ∙ sym (at_drop_more (λ ss. target_from b (map reactor_tree ss) p) rs i r within)
+
+pub target_found : (b : Before) (rs : List Reactor) (i : ℕ) (r : Reactor) (p : PortName) → i < length rs → r ≡ get_or rs i r
+    → bytes_eq p.reactor r.name ≡ true → readable b (reactor_tree r) p.port ≡ target_from b (map reactor_tree (drop i rs)) p
+target_found b rs i r p within here so =
+    let rest = λ (s : Reactor). target_from (past b (reactor_tree s)) (map reactor_tree (drop (i + 1) rs)) p in
+    sym (cond-true (bytes_eq p.reactor r.name) (readable b (reactor_tree r) p.port) (rest r) so)
+    ∙ ap (λ (s : Reactor). if bytes_eq p.reactor s.name then readable b (reactor_tree s) p.port else rest s) here
+    ∙ sym (at_drop_more (λ ss. target_from b (map reactor_tree ss) p) rs i r within)
+
+pub target_none : (b : Before) (rs : List Reactor) (i : ℕ) (p : PortName) → length rs ≤ i
+    → target_from b (map reactor_tree (drop i rs)) p ≡ to.Startup
+target_none b rs i p past = ap (λ ss. target_from b (map reactor_tree ss) p) (drop_all i rs past)
 
 -- one thing more, and the things that are left
 pub joined_more : {X Y Z W : Type 0} (f : X → Z) (g : W → Z) (t : Y → W) (done : List X) (x : X) (ys : List Y) (i : ℕ) (y : Y) → i < length ys → y ≡ get_or ys i y

@@ -1,13 +1,15 @@
 -- A file that goes past a limit: a number outside its range, too many things, or a body that is too deep or schedules
 -- too often. The version decides how wide the ranges are.
-use Rattle.std.specs.Prelude.{ℕ, ℤ, pos, ◌+◌, ◌-◌, ◌*◌, ◌/◌, max, nat_lt, unsigned_abs, Bool, true, false, ◌||◌, ◌==◌, List, [], ◌∷◌, ◌++◌, length, Option, Some, None, if◌then◌else◌}
+use Rattle.std.specs.Prelude.{ℕ, ℤ, pos, ◌+◌, ◌-◌, ◌*◌, ◌/◌, max, nat_lt, unsigned_abs, Bool, true, false, not, ◌||◌, ◌==◌, List, [], ◌∷◌, ◌++◌, length, Option, Some, None, bytes_eq, if◌then◌else◌}
 use Rattle.std.specs.List.{list_any}
 use Rattle.std.specs.Int.Signed.{le_z, lt_z}
 use Rattle.std.specs.Ordering.{int_eq}
-use Rattle.warp_tag.specs.Limits.{longest_stop, longest_period, most_origins, most_reactors, most_ports, most_reactions, most_actions, most_timers, most_links, most_inputs, most_outputs, most_wishes}
+use Rattle.warp_tag.specs.Limits.{last_microstep, most_pending, longest_stop, longest_period, most_origins, most_reactors, most_ports, most_reactions, most_actions, most_timers, most_links, most_inputs, most_outputs, most_wishes}
 use Rattle.warp_tag.specs.declared.form.Form.{Form}
 use Rattle.warp_tag.specs.declared.form.Form.TheVariants.{One, Two, Three, Four}
-use Rattle.warp_prog.specs.File.{File, ReactorPart, ReactionPart, ArrayPart, StartPart, OfAll, OfEach, BeginPart}
+use Rattle.warp_body.specs.Told.{latest_beginning}
+use Rattle.warp_step.specs.Program.{goes_on}
+use Rattle.warp_prog.specs.File.{Word, File, ReactorPart, ReactionPart, ArrayPart, StartPart, OfAll, OfEach, BeginPart}
 use Rattle.warp_prog.specs.File.{NamedTerm, Literal, Named, PresentNamed, OneNamed, TwoNamed, ChoiceNamed, ProductNamed, CellNamed, TimeNamed, MicrostepNamed}
 use Rattle.warp_prog.specs.File.{NamedStatement, SetNamed, PutNamed, ScheduleNamed, ChooseNamed, SetCellNamed, RepeatNamed, NamedBody, NamedDone, NamedThen}
 use Rattle.warp_prog.specs.Version.{first_version, third_version, last_version}
@@ -15,6 +17,8 @@ use Rattle.warp_prog.specs.declared.file.ActionPart.{ActionPart}
 use Rattle.warp_prog.specs.declared.file.TimerPart.{TimerPart}
 use Rattle.warp_prog.specs.declared.file.LinkPart.{LinkPart}
 use Rattle.warp_prog.specs.declared.file.InputPart.{InputPart}
+use Rattle.warp_prog.specs.declared.file.PendingPart.{PendingPart}
+use Rattle.warp_prog.specs.declared.file.PortName.{PortName}
 
 -- the form of a version: that of the first is the first, that of the third the third, that of the last the fourth, that of any
 -- other the second; one that is not known is refused itself
@@ -235,10 +239,21 @@ lists_exceed f =
     || are_more_than (most_inputs (file_form f)) f.inputs
     || are_more_than (most_outputs (file_form f)) f.outputs
 
--- a file that goes on from another one: none is run yet that does
-abbrev pub begin_exceeds : Option BeginPart → Bool
-begin_exceeds None = false
-begin_exceeds (Some b) = true
+-- what is pending outside the times up to the stop, or past the last microstep
+abbrev pub pending_exceeds : Form → ℤ → PendingPart → Bool
+pending_exceeds form stop p = is_outside (pos 0) stop p.time || is_outside (pos 0) (pos (last_microstep form)) p.microstep
+
+-- the most entries that a file can say were lost
+abbrev pub most_lost : ℕ
+most_lost = 9223372036854775807
+
+-- where a file of another form than the fourth begins that goes on from another one; more that is pending than there may be, or
+-- something outside of its range; a count that is
+abbrev pub begin_exceeds : Form → ℤ → Option BeginPart → Bool
+begin_exceeds form stop None = false
+begin_exceeds form stop (Some b) =
+    not (goes_on form) || nat_lt most_pending (length b.pending) || list_any (pending_exceeds form stop) b.pending
+    || is_outside (pos 0) (pos most_lost) b.lost || is_outside (pos 0) (pos latest_beginning) b.since
 
 -- a version, a stop or a number of origins outside its range
 abbrev pub numbers_exceed : File → Bool
@@ -273,10 +288,13 @@ most_own = 20000000
 
 -- how often a timer is due up to a stop: at its offset, and after each period again. The numbers of a file within the
 -- limits above are not negative
+abbrev pub due_from : ℤ → ℤ → ℤ → ℕ
+due_from stop time period =
+    if nat_lt (unsigned_abs stop) (unsigned_abs time) then 0
+    else (if unsigned_abs period == 0 then 1 else 1 + (unsigned_abs stop - unsigned_abs time) / unsigned_abs period)
+
 abbrev pub times_due : ℤ → TimerPart → ℕ
-times_due stop t =
-    if nat_lt (unsigned_abs stop) (unsigned_abs t.offset) then 0
-    else (if unsigned_abs t.period == 0 then 1 else 1 + (unsigned_abs stop - unsigned_abs t.offset) / unsigned_abs t.period)
+times_due stop t = due_from stop t.offset t.period
 
 -- how often the timers of a list are, added up
 abbrev pub all_due : ℤ → List TimerPart → ℕ
@@ -287,12 +305,34 @@ all_due stop (t ∷ ts) = times_due stop t + all_due stop ts
 abbrev pub due_exceeds : ℤ → ℕ → List ReactorPart → Bool
 due_exceeds stop outputs rs = nat_lt (most_own / max 1 outputs) (total (λ r. all_due stop r.timers) rs)
 
+-- the period of the timer that a reference names, in the first of these reactors that has its name; 0 where there is none
+abbrev pub period_among : List TimerPart → Word → ℤ
+period_among [] name = pos 0
+period_among (t ∷ ts) name = if bytes_eq name t.name then t.period else period_among ts name
+
+abbrev pub period_named : List ReactorPart → PortName → ℤ
+period_named [] p = pos 0
+period_named (r ∷ rs) p = if bytes_eq p.reactor r.name then period_among r.timers p.port else period_named rs p
+
+-- how often what is pending is due up to a stop: at its time, and where it leads to a timer, after each period again
+abbrev pub entry_due : ℤ → List ReactorPart → PendingPart → ℕ
+entry_due stop rs p = due_from stop p.time (period_named rs p.target)
+
+abbrev pub pending_due : ℤ → List ReactorPart → List PendingPart → ℕ
+pending_due stop rs [] = 0
+pending_due stop rs (p ∷ ps) = entry_due stop rs p + pending_due stop rs ps
+
+-- in a file that goes on from another one it is what is pending that is due, else the timers
+abbrev pub own_exceeds : Option BeginPart → File → Bool
+own_exceeds None f = due_exceeds f.stop (length f.outputs) f.reactors
+own_exceeds (Some b) f = nat_lt (most_own / max 1 (length f.outputs)) (pending_due f.stop f.reactors b.pending)
+
 -- the timers of a file are; those of the first form and of the second never
 abbrev pub timers_exceed_in : Form → File → Bool
 timers_exceed_in One f = false
 timers_exceed_in Two f = false
-timers_exceed_in Three f = due_exceeds f.stop (length f.outputs) f.reactors
-timers_exceed_in Four f = due_exceeds f.stop (length f.outputs) f.reactors
+timers_exceed_in Three f = own_exceeds f.begin f
+timers_exceed_in Four f = own_exceeds f.begin f
 
 abbrev pub timers_exceed : File → Bool
 timers_exceed f = timers_exceed_in (file_form f) f

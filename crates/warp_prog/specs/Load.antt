@@ -4,7 +4,7 @@ use Rattle.serde_json.specs.Data.{Data}
 use Rattle.warp_step.specs.Program.{Program}
 use Rattle.warp_prog.specs.File.{File}
 use Rattle.warp_prog.specs.Shape.{file_of}
-use Rattle.warp_prog.specs.Reading.{longest_file, json_of}
+use Rattle.warp_prog.specs.Reading.{json_of, longest_begun, longest_file, most_for}
 use Rattle.warp_prog.specs.Refusal.{number_of}
 use Rattle.warp_prog.specs.Exceeds.{exceeds_limits}
 use Rattle.warp_prog.specs.Version.{first_version, second_version, third_version, last_version}
@@ -55,27 +55,32 @@ SpellsProgram v P = (f : File) × (file_of v ≡ Some f) × IsFaultless f × (P 
 
 -- bytes that are not too many spell a program: the JSON value that they spell does
 abbrev pub IsLoaded : List ℕ → Program → Type 0
-IsLoaded bytes P = (length bytes ≤ longest_file) × (v : Data) × (json_of bytes ≡ Some v) × SpellsProgram v P
+IsLoaded bytes P = (length bytes ≤ most_for bytes) × (v : Data) × (json_of bytes ≡ Some v) × SpellsProgram v P
 
 -- bytes that are not too many spell a JSON value whose first fault has this number
 abbrev pub IsFaulty : List ℕ → ℕ → Type 0
-IsFaulty bytes k = (length bytes ≤ longest_file) × (v : Data) × (json_of bytes ≡ Some v) × HasFirstFault v k
+IsFaulty bytes k = (length bytes ≤ most_for bytes) × (v : Data) × (json_of bytes ≡ Some v) × HasFirstFault v k
 
 -- and it is a file of this version
 abbrev pub IsFaultyFile : List ℕ → ℕ → ℕ → Type 0
 IsFaultyFile bytes version k =
-    (length bytes ≤ longest_file) × (v : Data) × (json_of bytes ≡ Some v) × HasFirstFault v k × (f : File) × (file_of v ≡ Some f)
+    (length bytes ≤ most_for bytes) × (v : Data) × (json_of bytes ≡ Some v) × HasFirstFault v k × (f : File) × (file_of v ≡ Some f)
     × (f.version ≡ pos version)
 
--- why bytes are refused: too many are past a limit, whatever they are; of the others, those that spell no JSON value are
+-- why bytes are refused: too many for what they spell are past a limit; of the others, those that spell no JSON value are
 -- no JSON, and a JSON value is refused for its first fault, where the version tells the two faults of order apart; memory may
--- be wanting for any that are not too many
+-- be wanting for any that are not too many for whatever they spell
 abbrev pub IsRefused : List ℕ → LoadError → Type 0
-IsRefused bytes Json = (length bytes ≤ longest_file) × (json_of bytes ≡ None)
-IsRefused bytes Limit = (longest_file < length bytes) ⊎ IsFaulty bytes (number_of Limit)
-IsRefused bytes Memory = length bytes ≤ longest_file
+IsRefused bytes Json = (length bytes ≤ most_for bytes) × (json_of bytes ≡ None)
+IsRefused bytes Limit = (most_for bytes < length bytes) ⊎ IsFaulty bytes (number_of Limit)
+IsRefused bytes Memory = length bytes ≤ longest_begun
 IsRefused bytes Backward = IsFaultyFile bytes first_version (number_of Backward)
 IsRefused bytes Causality =
     IsFaultyFile bytes second_version (number_of Causality)
     ⊎ (IsFaultyFile bytes third_version (number_of Causality) ⊎ IsFaultyFile bytes last_version (number_of Causality))
 IsRefused bytes e = IsFaulty bytes (number_of e)
+
+-- and where none may be longer than a file that people write
+abbrev pub IsShortRefused : List ℕ → LoadError → Type 0
+IsShortRefused bytes e =
+    ((length bytes ≤ longest_file) × IsRefused bytes e) ⊎ ((longest_file < length bytes) × (e ≡ Limit))

@@ -2,12 +2,13 @@
 -- Where things share a name, one of a kind that is asked is enough.
 use Rattle.std.specs.Prelude.{Bool, false, not, ◌&&◌, ◌||◌, List, Option, Some, None, bytes_eq}
 use Rattle.std.specs.List.{list_any}
-use Rattle.warp_prog.specs.File.{Word, File, ReactorPart, ReactionPart}
+use Rattle.warp_prog.specs.File.{Word, BeginPart, File, ReactorPart, ReactionPart}
 use Rattle.warp_prog.specs.Uses.{Use, Reads, Asks, Sets, Puts, Schedules, Indexes, body_uses, is_among, variable_names, array_names, action_names, timer_names, carries_value, is_trigger}
 use Rattle.warp_prog.specs.declared.file.PortName.{PortName}
 use Rattle.warp_prog.specs.declared.file.CalledPart.{CalledPart}
 use Rattle.warp_prog.specs.declared.file.LinkPart.{LinkPart}
 use Rattle.warp_prog.specs.declared.file.InputPart.{InputPart}
+use Rattle.warp_prog.specs.declared.file.PendingPart.{PendingPart}
 
 -- whether a use names a thing of its kind: a value is a variable's, an input's or an action's
 abbrev pub is_known : ReactorPart → Use → Bool
@@ -58,6 +59,15 @@ is_input rs p = list_any (λ (r : ReactorPart). bytes_eq p.reactor r.name && is_
 abbrev pub is_output : List ReactorPart → PortName → Bool
 is_output rs p = list_any (λ (r : ReactorPart). bytes_eq p.reactor r.name && is_among r.outputs p.port) rs
 
+-- whether a reference names what can be pending: what can start a reaction of a reactor of this name
+abbrev pub can_wait : List ReactorPart → PortName → Bool
+can_wait rs p = list_any (λ (r : ReactorPart). bytes_eq p.reactor r.name && is_trigger r p.port) rs
+
+-- a beginning with something pending that cannot be
+abbrev pub begin_unknown : List ReactorPart → Option BeginPart → Bool
+begin_unknown rs None = false
+begin_unknown rs (Some b) = list_any (λ (p : PendingPart). not (can_wait rs p.target)) b.pending
+
 -- a link that is not from an output to an input
 abbrev pub link_unknown : List ReactorPart → LinkPart → Bool
 link_unknown rs l = not (is_output rs l.source && is_input rs l.target)
@@ -70,3 +80,4 @@ names_unknown f =
     || list_any (link_unknown f.reactors) f.links
     || list_any (λ (i : InputPart). not (is_input f.reactors i.port)) f.inputs
     || list_any (λ p. not (is_output f.reactors p)) f.outputs
+    || begin_unknown f.reactors f.begin

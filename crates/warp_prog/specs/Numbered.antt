@@ -7,7 +7,7 @@ use Rattle.warp_body.specs.Term.{Term, Constant, VariableAt, ValueAt, PresentAt,
 use Rattle.warp_body.specs.Effect.{Statement, SetVariable, PutOutput, ScheduleAction, Choose, SetCell, Repeat, Body, Done, Then}
 use Rattle.warp_body.specs.declared.place.Target.{Target}
 use Rattle.warp_body.specs.declared.place.Target.TheVariants as to
-use Rattle.warp_step.specs.Program.{Rule, Program}
+use Rattle.warp_step.specs.Program.{Begun, Rule, Program}
 use Rattle.warp_step.specs.Valid.{names}
 use Rattle.warp_step.specs.Order.{file_order}
 use Rattle.warp_step.specs.declared.parts.Variable.{Variable}
@@ -16,7 +16,8 @@ use Rattle.warp_step.specs.declared.parts.Action.{Action}
 use Rattle.warp_step.specs.declared.parts.Timer.{Timer}
 use Rattle.warp_step.specs.declared.parts.Link.{Link}
 use Rattle.warp_step.specs.declared.parts.ProgramInput.{ProgramInput}
-use Rattle.warp_prog.specs.File.{Word, File, ReactorPart, ReactionPart, ArrayPart, StartPart, OfAll, OfEach}
+use Rattle.warp_step.specs.declared.pending.Waiting.{Waiting}
+use Rattle.warp_prog.specs.File.{Word, BeginPart, File, ReactorPart, ReactionPart, ArrayPart, StartPart, OfAll, OfEach}
 use Rattle.warp_prog.specs.File.{NamedTerm, Literal, Named, PresentNamed, OneNamed, TwoNamed, ChoiceNamed, ProductNamed, CellNamed, TimeNamed, MicrostepNamed}
 use Rattle.warp_prog.specs.File.{NamedStatement, SetNamed, PutNamed, ScheduleNamed, ChooseNamed, SetCellNamed, RepeatNamed, NamedBody, NamedDone, NamedThen}
 use Rattle.warp_prog.specs.Limits.{cells_of, file_form, total}
@@ -29,6 +30,7 @@ use Rattle.warp_prog.specs.declared.file.ActionPart.{ActionPart}
 use Rattle.warp_prog.specs.declared.file.TimerPart.{TimerPart}
 use Rattle.warp_prog.specs.declared.file.LinkPart.{LinkPart}
 use Rattle.warp_prog.specs.declared.file.InputPart.{InputPart}
+use Rattle.warp_prog.specs.declared.file.PendingPart.{PendingPart}
 use Rattle.warp_prog.specs.declared.scope.Before.{Before}
 
 -- nothing stands before the first reactor; cells are numbered behind the variables of all reactors, which are so many
@@ -216,6 +218,25 @@ numbered_link rs l = record {
 abbrev pub numbered_input : List ReactorPart → InputPart → ProgramInput
 numbered_input rs i = record { origin = unsigned_abs i.origin; port = target_number rs i.port }
 
+-- what a reference names that may be pending, in the first of these reactors that has its name; `startup` where none has
+abbrev pub target_from : Before → List ReactorPart → PortName → Target
+target_from b [] p = to.Startup
+target_from b (r ∷ rs) p = if bytes_eq p.reactor r.name then readable b r p.port else target_from (past b r) rs p
+
+abbrev pub target_named : List ReactorPart → PortName → Target
+target_named rs p = target_from (nothing_before 0) rs p
+
+-- what is pending, and where a program begins
+abbrev pub numbered_entry : List ReactorPart → PendingPart → Waiting
+numbered_entry rs p = record {
+  tag = record { time = unsigned_abs p.time; microstep = unsigned_abs p.microstep };
+  target = target_named rs p.target;
+  value = p.value;
+}
+
+abbrev pub numbered_begin : List ReactorPart → BeginPart → Begun
+numbered_begin rs b = record { pending = map (numbered_entry rs) b.pending; lost = unsigned_abs b.lost; since = unsigned_abs b.since }
+
 -- what stands before the first reactor of a file
 abbrev pub file_front : File → Before
 file_front f = nothing_before (variables_in f.reactors)
@@ -236,6 +257,7 @@ unordered f = record {
   links = map (numbered_link f.reactors) f.links;
   inputs = map (numbered_input f.reactors) f.inputs;
   outputs = map (source_number f.reactors) f.outputs;
+  begin = option_map (numbered_begin f.reactors) f.begin;
 }
 
 -- whether a file is of the first version

@@ -1,21 +1,40 @@
 -- The rows that a program makes by itself: those of startup and of its timers, where nothing else comes.
 use Rattle.std.specs.Prelude.{ℕ, zero, suc, ◌+◌, ◌*◌, ◌-◌, ◌%◌, Bool, ◌&&◌, ◌||◌, ◌==◌, nat_le, nat_lt, if◌then◌else◌}
-use Rattle.std.specs.Prelude.{List, [], ◌++◌, codes, length}
+use Rattle.std.specs.Prelude.{List, [], ◌++◌, codes, length, slice_get, Option, Some, None}
+use Rattle.std.specs.Option.{option_map_or}
 use Rattle.std.specs.List.{list_any}
 use Rattle.warp_tag.specs.declared.form.Form.{Form}
 use Rattle.warp_tag.specs.declared.form.Form.TheVariants.{One, Two, Three, Four}
-use Rattle.warp_step.specs.Program.{Program}
+use Rattle.warp_body.specs.declared.place.Target.{Target}
+use Rattle.warp_body.specs.declared.place.Target.TheVariants as to
+use Rattle.warp_step.specs.Program.{Begun, Program}
 use Rattle.warp_step.specs.Snapshot.{begins}
 use Rattle.warp_step.specs.declared.parts.Timer.{Timer}
+use Rattle.warp_step.specs.declared.pending.Waiting.{Waiting}
 
 -- a timer is due at a time: at its offset, and where it has a period, after each period again
 abbrev pub is_due : ℕ → Timer → Bool
 is_due time t =
     nat_le t.offset time && (if t.period == 0 then time == t.offset else (time - t.offset) % t.period == 0)
 
--- startup or a timer is due at a time
+-- the period of a target that is a timer, else 0
+abbrev pub period_to : Program → Target → ℕ
+period_to P to.Startup = 0
+period_to P (to.Timer n) = option_map_or (λ t. t.period) (slice_get P.timers n) 0
+period_to P (to.Action n) = 0
+period_to P (to.Port n) = 0
+
+-- an entry is due at a time: at its own, and where it is of a timer with a period, after each period again
+abbrev pub entry_due : Program → ℕ → Waiting → Bool
+entry_due P time w = is_due time (record { reactor = 0; offset = w.tag.time; period = period_to P w.target })
+
+-- startup or a timer is due at a time; of a program that goes on from another one, what is pending where it begins
+abbrev pub is_own_in : Program → ℕ → Option Begun → Bool
+is_own_in P time None = (time == 0 && begins P) || list_any (is_due time) P.timers
+is_own_in P time (Some b) = list_any (entry_due P time) b.pending
+
 abbrev pub is_own : Program → ℕ → Bool
-is_own P time = (time == 0 && begins P) || list_any (is_due time) P.timers
+is_own P time = is_own_in P time P.begin
 
 -- at how many of the times before this one
 abbrev pub own_before : Program → ℕ → ℕ

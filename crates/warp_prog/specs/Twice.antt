@@ -1,12 +1,14 @@
 -- A file in which something stands twice that may stand once.
-use Rattle.std.specs.Prelude.{ℕ, ◌+◌, nat_lt, Bool, ◌&&◌, ◌||◌, List, [], ◌∷◌, ◌++◌, map, bytes_eq, unwrap_or, if◌then◌else◌}
+use Rattle.std.specs.Prelude.{ℕ, ◌+◌, nat_lt, Bool, ◌&&◌, ◌||◌, List, [], ◌∷◌, ◌++◌, map, Option, Some, None, bytes_eq, unwrap_or, if◌then◌else◌}
 use Rattle.std.specs.List.{list_any}
-use Rattle.warp_prog.specs.File.{Word, File, ReactorPart}
+use Rattle.std.specs.Ordering.{int_eq}
+use Rattle.warp_prog.specs.File.{Word, BeginPart, File, ReactorPart}
 use Rattle.warp_prog.specs.Uses.{startup, variable_names, array_names, action_names, timer_names}
 use Rattle.warp_prog.specs.declared.file.PortName.{PortName}
 use Rattle.warp_prog.specs.declared.file.CalledPart.{CalledPart}
 use Rattle.warp_prog.specs.declared.file.LinkPart.{LinkPart}
 use Rattle.warp_prog.specs.declared.file.InputPart.{InputPart}
+use Rattle.warp_prog.specs.declared.file.PendingPart.{PendingPart}
 
 -- how often a value stands in a list
 abbrev pub how_often : {A : Type 0} → (A → A → Bool) → List A → A → ℕ
@@ -45,8 +47,21 @@ same_port p q = bytes_eq p.reactor q.reactor && bytes_eq p.port q.port
 abbrev pub targets : List LinkPart → List InputPart → List PortName
 targets ls is = map (λ (l : LinkPart). l.target) ls ++ map (λ (i : InputPart). i.port) is
 
--- a file with a reactor's name twice, a name twice in a reactor, a thing called or hidden twice, two sources of an input, or an
--- output listed twice
+-- whether two references are to the same thing that may be pending: all reactors have one `startup`
+abbrev pub same_target : PortName → PortName → Bool
+same_target p q = bytes_eq p.port q.port && (bytes_eq p.reactor q.reactor || bytes_eq p.port startup)
+
+-- whether two entries are at the same tag, to the same target
+abbrev pub same_entry : PendingPart → PendingPart → Bool
+same_entry p q = int_eq p.time q.time && int_eq p.microstep q.microstep && same_target p.target q.target
+
+-- a beginning in which something is pending twice
+abbrev pub begin_twice : Option BeginPart → Bool
+begin_twice None = false
+begin_twice (Some b) = repeats same_entry b.pending
+
+-- a file with a reactor's name twice, a name twice in a reactor, a thing called or hidden twice, two sources of an input, an
+-- output listed twice, or something pending twice where it begins
 abbrev pub names_twice : File → Bool
 names_twice f =
     repeats bytes_eq (reactor_names f.reactors)
@@ -54,3 +69,4 @@ names_twice f =
     || list_any texts_twice f.reactors
     || repeats same_port (targets f.links f.inputs)
     || repeats same_port f.outputs
+    || begin_twice f.begin

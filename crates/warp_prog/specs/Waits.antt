@@ -6,10 +6,11 @@ use Rattle.std.specs.Option.{option_map_or}
 use Rattle.warp_body.specs.Effect.{Statement, SetVariable, PutOutput, ScheduleAction, Choose, SetCell, Repeat, Body, Done, Then}
 use Rattle.warp_body.specs.declared.place.Target.{Target}
 use Rattle.warp_body.specs.declared.place.Target.TheVariants as to
-use Rattle.warp_step.specs.Program.{Program, Rule}
+use Rattle.warp_step.specs.Program.{Begun, Program, Rule}
 use Rattle.warp_step.specs.declared.parts.Action.{Action}
 use Rattle.warp_step.specs.declared.parts.Link.{Link}
 use Rattle.warp_step.specs.declared.parts.Timer.{Timer}
+use Rattle.warp_step.specs.declared.pending.Waiting.{Waiting}
 use Rattle.warp_prog.specs.Explain.{Names, counted}
 use Rattle.warp_prog.specs.File.{Word}
 use Rattle.warp_prog.specs.Work.{shown}
@@ -109,6 +110,27 @@ abbrev pub reaches_of : List Passage → ℕ → List Timer → List Reach
 reaches_of ps n [] = []
 reaches_of ps n (t ∷ ts) = reach_from ps t (target_place (to.Timer n)) ∷ reaches_of ps (n + 1) ts
 
+-- a timer with this number, if there is one, that is pending at a time, from where on it ticks
+abbrev pub timer_reach : List Passage → ℕ → ℕ → Option Timer → List Reach
+timer_reach ps time n None = []
+timer_reach ps time n (Some t) = reach_from ps (record t { offset = time }) (target_place (to.Timer n)) ∷ []
+
+-- of what is pending at a time, to this target: nothing ticks there but a timer
+abbrev pub entry_reach : List Passage → List Timer → ℕ → Target → List Reach
+entry_reach ps timers time to.Startup = []
+entry_reach ps timers time (to.Timer n) = timer_reach ps time n (slice_get timers n)
+entry_reach ps timers time (to.Action n) = []
+entry_reach ps timers time (to.Port n) = []
+
+abbrev pub reaches_at : List Passage → List Timer → List Waiting → List Reach
+reaches_at ps timers [] = []
+reaches_at ps timers (w ∷ ws) = entry_reach ps timers w.tag.time w.target ++ reaches_at ps timers ws
+
+-- of each timer that ticks: of all; or in a program that goes on from another one, of those that are pending where it begins
+abbrev pub reaches_in : List Passage → List Timer → Option Begun → List Reach
+reaches_in ps timers None = reaches_of ps 0 timers
+reaches_in ps timers (Some b) = reaches_at ps timers b.pending
+
 -- how many of a timer's ticks up to the stop lie less than a delay apart, so that what they bring waits for it at once: of its ticks
 -- behind the first, as many as there are and as the delay has room for, and the first
 abbrev pub held : ℕ → Timer → ℕ → ℕ
@@ -146,7 +168,7 @@ nothing = record { all = 0; most = 0; target = to.Startup }
 
 -- what of a program may wait at once
 abbrev pub waits_of : Program → Tally
-waits_of P = tally_all P.stop (reaches_of (passages P) 0 P.timers) (passages P) nothing
+waits_of P = tally_all P.stop (reaches_in (passages P) P.timers P.begin) (passages P) nothing
 
 -- how many entries of a program are pending at most
 abbrev pub most_pending : ℕ

@@ -30,8 +30,12 @@ pub fn fingerprint(alloc: Global, canonical: &str) -> Result<String, AllocError>
     hex::encode(alloc, Sha256::digest(canonical.as_bytes()))
 }
 
-/// The text of a file.
-pub(crate) fn canonical(alloc: Global, file: &ProgramFile) -> Result<String, AllocError>
+/// The text of a file, by which its program is known.
+///
+/// # Errors
+///
+/// Only where a growth was refused.
+pub fn canonical_text(alloc: Global, file: &ProgramFile) -> Result<String, AllocError>
     ensures { IfOk result (λ text. string_bytes text ≡ canonical_of (file_tree file.now)) }
 {
     let mut text = String::new(alloc);

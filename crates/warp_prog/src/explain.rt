@@ -36,6 +36,7 @@ use crate::file::{ProgramFile, Reactor};
 use crate::limits::{FIRST_VERSION, exceeds_limits};
 use crate::misread::Misread;
 use crate::names::names_unknown;
+use crate::reading::{LONGEST_BEGUN, LONGEST_FILE, longest_for};
 use crate::shape::file;
 use crate::undeclared::is_undeclared;
 pub(crate) use account::origin_at;
@@ -48,9 +49,6 @@ use std::alloc::{AllocError, Global};
 pub use waits::waits_warning;
 pub use warnings::program_warnings;
 
-/// How many bytes a file has at most.
-const LONGEST_FILE: usize = 1_048_576;
-
 /// How the texts of programs begin.
 const TEXT_FRONTS: &[&str] = &["target", "reactor", "main", "const", "@", "//", "/*"];
 
@@ -62,8 +60,8 @@ const TEXT_FRONTS: &[&str] = &["target", "reactor", "main", "const", "@", "//", 
 ///
 /// Only where a growth was refused.
 pub fn explanation(alloc: Global, bytes: &[u8], error: LoadError) -> Result<String, AllocError> {
-    if bytes.len() > LONGEST_FILE {
-        return String::from_str(alloc, "the file has more than 1,048,576 bytes\n");
+    if bytes.len() > LONGEST_BEGUN {
+        return String::from_str(alloc, "the file has more than 4,194,304 bytes\n");
     }
     match Value::from_slice(alloc, bytes) {
         Ok(value) => of_value(alloc, Source::new(bytes, &value), error),
@@ -89,10 +87,18 @@ fn of_text(alloc: Global, bytes: &[u8], fault: &Error) -> Result<String, AllocEr
     if fault.is_memory() {
         return Err(AllocError);
     }
+    if bytes.len() > LONGEST_FILE {
+        return too_long(alloc);
+    }
     let line = fault.line();
     let column = fault.column();
     let reason = text_reason(bytes, fault);
     format!(in alloc; "line {line}, column {column}: {reason}\n")
+}
+
+/// What is told of a file that is too long for one that goes on from no other.
+fn too_long(alloc: Global) -> Result<String, AllocError> {
+    String::from_str(alloc, "the file has more than 1,048,576 bytes\n")
 }
 
 /// Why bytes are no JSON text.
@@ -127,6 +133,7 @@ fn looks_like_text(bytes: &[u8]) -> bool {
 fn of_value(alloc: Global, source: Source<'_>, error: LoadError) -> Result<String, AllocError> {
     match file(alloc, source.value) {
         Ok(file) => of_file(alloc, source, &file, error),
+        Err(Misread::Shape) if source.bytes.len() > LONGEST_FILE => too_long(alloc),
         Err(Misread::Shape) => of_shape(alloc, source),
         Err(Misread::Memory) => Err(AllocError),
     }
@@ -146,6 +153,9 @@ fn of_file(
     file: &ProgramFile,
     error: LoadError,
 ) -> Result<String, AllocError> {
+    if source.bytes.len() > longest_for(file) {
+        return too_long(alloc);
+    }
     match error {
         LoadError::Causality if file.version != FIRST_VERSION => of_order(alloc, source, file),
         LoadError::Name => of_names(alloc, source, file),

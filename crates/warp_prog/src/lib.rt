@@ -32,14 +32,24 @@ mod two_results;
 mod undeclared;
 mod uses;
 
-pub use canonical::fingerprint;
+pub use canonical::{canonical_text, fingerprint};
 pub use due::own_rows;
 pub use error::LoadError;
 pub use explain::{
     AccountOptions, Labels, explanation, program_account, program_warnings, rows_warning,
     waits_warning,
 };
+pub use file::{
+    ActionPart, Array, ArrayStart, Beginning, InputPart, LinkPart, PendingPart, PortName,
+    ProgramFile, Reaction, Reactor, TimerPart, VariablePart,
+};
 pub use json_names::names_line;
 pub use law::loader_order;
 pub use limits::work::Work;
-pub use loading::{LabelledProgram, NamedProgram, load, load_labelled, load_named};
+pub use loading::{
+    LabelledProgram, NamedProgram, ReadProgram, load, load_begun, load_labelled, load_named,
+    read_program,
+};
+pub use name::Name;
+pub use named::{Named, is_among, is_same};
+pub use shape::word::read_port;

@@ -1,15 +1,16 @@
 //! Files that go past a limit. The version of a file decides how wide the ranges are.
-ghost use Rattle.std.specs.Prelude.{◌≡◌, ◌≤◌, ◌-◌, ℕ, pos, map, nat_lt, SomeIff};
+ghost use Rattle.std.specs.Prelude.{◌≡◌, ◌≤◌, ◌-◌, ℕ, pos, map, nat_lt, not, Some, SomeIff};
 ghost use Rattle.std.specs.List.{list_any};
 ghost use Rattle.warp_tag.specs.Limits.{longest_period, longest_stop, most_origins};
 ghost use Rattle.warp_prog.specs.Limits.{file_form, form_of_version, is_outside, period_exceeds, origin_exceeds};
 ghost use Rattle.warp_prog.specs.Limits.{array_exceeds, begin_exceeds, cells_of, lists_exceed, most_arrays, most_cells};
-ghost use Rattle.warp_prog.specs.Limits.{most_scalars, starts_exceed};
+ghost use Rattle.warp_prog.specs.Limits.{most_scalars, pending_exceeds, starts_exceed};
+ghost use Rattle.warp_step.specs.Program.{goes_on};
 ghost use Rattle.warp_prog.specs.Version.{first_version, last_version};
 ghost use Rattle.warp_prog.specs.Limits.{total, totals_exceed, action_exceeds, timer_exceeds, link_exceeds};
 ghost use Rattle.warp_prog.specs.Limits.{reaction_exceeds, reactor_exceeds, parts_exceed};
 ghost use Rattle.warp_prog.specs.Exceeds.{exceeds_limits};
-ghost use Rattle.warp_prog.specs.View.{array_tree, file_tree, reactor_tree, reaction_tree, start_tree};
+ghost use Rattle.warp_prog.specs.View.{array_tree, begin_tree, file_tree, reactor_tree, reaction_tree, start_tree};
 ghost use Rattle.warp_prog.specs.inner.Things.{count_of, most_of};
 ghost use Rattle.warp_prog.specs.inner.Others.{counts_exceed, ends_exceed, others_exceed};
 ghost use Rattle.warp_prog.specs.declared.file.InputPart.{InputPart};
@@ -23,7 +24,8 @@ use crate::explain::limits::note_totals;
 use crate::explain::reason::Reason;
 use crate::explain::trail::{Segment, Trail};
 use crate::file::{
-    ActionPart, Array, ArrayStart, InputPart, LinkPart, ProgramFile, Reaction, Reactor, TimerPart,
+    ActionPart, Array, ArrayStart, Beginning, InputPart, LinkPart, PendingPart, ProgramFile,
+    Reaction, Reactor, TimerPart,
 };
 use crate::limits::body::body_exceeds;
 use crate::limits::timers::timers_exceed;
@@ -36,6 +38,15 @@ pub(crate) const FIRST_VERSION: i64 = 1;
 const THIRD_VERSION: i64 = 3;
 
 pub(crate) const LAST_VERSION: i64 = 4;
+
+/// How many entries may be pending where a program begins.
+const MOST_PENDING: u32 = 256;
+
+/// How many entries at most a file can say were lost.
+const MOST_LOST: i64 = i64::MAX;
+
+/// The latest time at which a program can begin that goes on from others.
+const LATEST: i64 = 1_000_000_000_000_000;
 
 /// How many cells an array may have.
 pub(crate) const LONGEST_ARRAY: i64 = 65_536;
@@ -164,7 +175,7 @@ fn others_exceed(file: &ProgramFile, at: &mut Trail) -> bool
         || work_exceeds(file, at)
 }
 
-/// Whether a number of its own does, it goes on from another one, or there are too many things.
+/// Whether a number of its own does, one where it begins, or there are too many things.
 fn counts_exceed(file: &ProgramFile, at: &mut Trail) -> bool
     ensures { result ≡ counts_exceed (file_tree file.now) }
 {
@@ -174,12 +185,65 @@ fn counts_exceed(file: &ProgramFile, at: &mut Trail) -> bool
         || any_total(file, at)
 }
 
-/// Whether a file goes on from another one: none is run yet that does.
+/// Whether where a file begins that goes on from another one does.
 fn begin_exceeds(file: &ProgramFile, at: &mut Trail) -> bool
-    ensures { result ≡ begin_exceeds (file_tree file.now).begin }
+    ensures { let f = file_tree file.now in result ≡ begin_exceeds (file_form f) f.stop f.begin }
 {
-    let reason = Reason::Plain("a program that goes on from another one is not run yet");
-    file.begin.is_some() && at.fault_at(Segment::Key("begin"), reason)
+    match &file.begin {
+        None => false,
+        Some(begin) => {
+            let form = form_of_version(file.version);
+            beginning_exceeds(begin, form, file.stop, at) && at.back(Segment::Key("begin"))
+        }
+    }
+}
+
+/// Whether this beginning of a file with this stop does: its form has none, too much is pending, or a number is outside
+/// its range.
+fn beginning_exceeds(begin: &Beginning, form: Form, stop: i64, at: &mut Trail) -> bool
+    ensures { result ≡ begin_exceeds form stop (Some (begin_tree begin.now)) }
+{
+    form_has_none(form, at)
+        || length_exceeds(begin.pending.len(), MOST_PENDING, "pending", at)
+        || any_pending(&begin.pending, form, stop, at)
+        || range_exceeds(begin.lost, 0, MOST_LOST, Segment::Key("lost"), at)
+        || range_exceeds(begin.since, 0, LATEST, Segment::Key("since"), at)
+}
+
+/// Whether no file of this form goes on from another one.
+fn form_has_none(form: Form, at: &mut Trail) -> bool
+    ensures { result ≡ not (goes_on form) }
+{
+    let reason = Reason::Plain("only programs of version 4 go on from others");
+    match form {
+        Form::One | Form::Two | Form::Three => at.fault(reason),
+        Form::Four => false,
+    }
+}
+
+fn any_pending(pending: &[PendingPart], form: Form, stop: i64, at: &mut Trail) -> bool
+    ensures { result ≡ list_any (pending_exceeds form stop) pending.now }
+{
+    for (i, entry) in pending.iter().enumerate() {
+        if pending_exceeds(entry, form, stop, at) {
+            return at.back(Segment::Of("pending", i));
+        }
+    }
+    false
+}
+
+/// Whether something is pending outside the times up to the stop, or past the last microstep.
+fn pending_exceeds(entry: &PendingPart, form: Form, stop: i64, at: &mut Trail) -> bool
+    ensures { result ≡ pending_exceeds form stop entry.now }
+{
+    range_exceeds(entry.time, 0, stop, Segment::Item(0), at)
+        || range_exceeds(
+            entry.microstep,
+            0,
+            i64::from(form.last_microstep()),
+            Segment::Item(1),
+            at,
+        )
 }
 
 fn numbers_exceed(file: &ProgramFile, at: &mut Trail) -> bool

@@ -1,18 +1,18 @@
 //! Loading a program file.
-ghost use Rattle.std.specs.Prelude.{◌≡◌, ◌<◌, ◌^◌, true, false, Ok, IfOk, IfErr, OnOk, length, string_bytes};
+ghost use Rattle.std.specs.Prelude.{◌≡◌, ◌<◌, ◌≤◌, ◌^◌, true, false, Ok, IfOk, IfErr, OnOk, length, string_bytes};
 ghost use Rattle.warp_step.specs.View.{program_of};
 ghost use Rattle.warp_prog.specs.Account.{IsWorked};
 ghost use Rattle.warp_prog.specs.Canonical.{IsCanonical};
 ghost use Rattle.warp_prog.specs.Exceeds.{exceeds_limits};
 ghost use Rattle.warp_prog.specs.Explain.{IsLabelled};
-ghost use Rattle.warp_prog.specs.Load.{IsFaultless, IsLoaded, IsRefused, lacks_order};
+ghost use Rattle.warp_prog.specs.Load.{IsFaultless, IsLoaded, IsRefused, IsShortRefused, lacks_order};
 ghost use Rattle.warp_prog.specs.Numbered.{is_first_version, numbered};
-ghost use Rattle.warp_prog.specs.Reading.{reading_of};
+ghost use Rattle.warp_prog.specs.Reading.{longest_file, reading_of};
 ghost use Rattle.warp_prog.specs.View.{file_tree};
 ghost use Rattle.warp_prog.specs.inner.Cause.{IsCause, IsNamed};
 
 use crate::backward::leads_back;
-use crate::canonical::canonical;
+use crate::canonical::canonical_text;
 use crate::error::LoadError;
 use crate::explain::trail::Trail;
 use crate::explain::{Labels, labels_of};
@@ -22,7 +22,7 @@ use crate::limits::{FIRST_VERSION, exceeds_limits};
 use crate::names::names_unknown;
 use crate::numbered::numbered;
 use crate::order::{file_order, loader_order};
-use crate::reading::reading;
+use crate::reading::{LONGEST_FILE, reading};
 use crate::stands_twice::names_twice;
 use crate::two_results::both;
 use crate::undeclared::is_undeclared;
@@ -47,6 +47,25 @@ pub struct LabelledProgram {
 /// versions. `Memory` comes only where a growth was refused.
 pub fn load(alloc: Global, bytes: &[u8]) -> Result<Program, LoadError>
     ensures ok { IfOk result (λ program. IsLoaded bytes.now program) }
+    ensures short { IfOk result (λ program. length bytes.now ≤ longest_file) }
+    ensures err { IfErr result (λ error. IsShortRefused bytes.now error) }
+{
+    if bytes.len() > LONGEST_FILE {
+        Err(LoadError::Limit)
+    } else {
+        load_begun(alloc, bytes)
+    }
+}
+
+/// Loads the program that the bytes of a file spell, also of one that goes on from another one and is longer than those
+/// that people write: it has the cells of that one's arrays.
+///
+/// # Errors
+///
+/// Those of `load`, but that files which go on from others may have up to 4,194,304 bytes. Whether one does is seen
+/// once it is read, so bytes up to as many are.
+pub fn load_begun(alloc: Global, bytes: &[u8]) -> Result<Program, LoadError>
+    ensures ok { IfOk result (λ program. IsLoaded bytes.now program) }
     ensures err { IfErr result (λ error. IsRefused bytes.now error) }
 {
     let read = read_program(alloc, bytes)?;
@@ -57,7 +76,7 @@ pub fn load(alloc: Global, bytes: &[u8]) -> Result<Program, LoadError>
 ///
 /// # Errors
 ///
-/// Those of `load`, of the same bytes.
+/// Those of `load_begun`, of the same bytes.
 pub fn load_labelled(alloc: Global, bytes: &[u8]) -> Result<LabelledProgram, LoadError>
     ensures program { IfOk result (λ l. IsLoaded bytes.now l.program) }
     ensures labels { IfOk result (λ l. IsLabelled bytes.now l.labels) }
@@ -86,7 +105,7 @@ pub struct NamedProgram {
 ///
 /// # Errors
 ///
-/// Those of `load`, of the same bytes.
+/// Those of `load_begun`, of the same bytes.
 pub fn load_named(alloc: Global, bytes: &[u8]) -> Result<NamedProgram, LoadError>
     ensures program { IfOk result (λ n. IsLoaded bytes.now n.program) }
     ensures labels { IfOk result (λ n. IsLabelled bytes.now n.labels) }
@@ -97,7 +116,12 @@ pub fn load_named(alloc: Global, bytes: &[u8]) -> Result<NamedProgram, LoadError
     let read = read_program(alloc, bytes)?;
     let labels = labels_of(alloc, &read.file);
     let work = work_of(&read.file);
-    with_names(read.program, labels, canonical(alloc, &read.file), work)
+    with_names(
+        read.program,
+        labels,
+        canonical_text(alloc, &read.file),
+        work,
+    )
 }
 
 /// A program with these labels and this text, if there was memory for both.
@@ -126,16 +150,23 @@ fn with_names(
 
 /// A program, and the file that spells it.
 #[derive(Drop)]
-struct ReadProgram {
-    program: Program,
-    file: ProgramFile,
+pub struct ReadProgram {
+    /// The program.
+    pub program: Program,
+    /// Its file, in which is no fault.
+    pub file: ProgramFile,
 }
 
 /// The program that the bytes of a file spell, and their file.
-fn read_program(alloc: Global, bytes: &[u8]) -> Result<ReadProgram, LoadError>
+///
+/// # Errors
+///
+/// Those of `load_begun`, of the same bytes.
+pub fn read_program(alloc: Global, bytes: &[u8]) -> Result<ReadProgram, LoadError>
     ensures program { IfOk result (λ read. IsLoaded bytes.now read.program) }
     ensures file { IfOk result (λ read. reading_of bytes.now ≡ Ok (file_tree read.file)) }
     ensures limits { IfOk result (λ read. exceeds_limits (file_tree read.file) ≡ false) }
+    ensures numbered { IfOk result (λ read. read.program ≡ numbered (file_tree read.file)) }
     ensures err { IfErr result (IsRefused bytes.now) }
 {
     let file = reading(alloc, bytes)?;

@@ -46,6 +46,16 @@ impl Name {
         }
     }
 
+    /// The same name.
+    pub fn copy(&self) -> Name
+        ensures { result ≡ self.now }
+    {
+        Name {
+            text: self.text,
+            hash: self.hash,
+        }
+    }
+
     /// The name as text.
     pub fn as_str(&self) -> &str
         ensures { result.now ≡ self.now }

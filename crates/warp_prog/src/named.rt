@@ -6,7 +6,7 @@ use crate::file::{ActionPart, Array, TimerPart, VariablePart};
 use crate::name::Name;
 
 /// A thing that has a name.
-pub(crate) trait Named {
+pub trait Named {
     ghost called: { Self → List ℕ };
 
     /// Its name.
@@ -57,7 +57,7 @@ impl Named for TimerPart {
 }
 
 /// Whether two names are the same.
-pub(crate) fn is_same(a: &Name, b: &Name) -> bool
+pub fn is_same(a: &Name, b: &Name) -> bool
     ensures { result ≡ bytes_eq a.now b.now }
 {
     if a.hash() != b.hash() {
@@ -74,7 +74,7 @@ pub(crate) fn is_startup(name: &Name) -> bool
 }
 
 /// Whether a name is among those of these things.
-pub(crate) fn is_among<T: Named>(things: &[T], name: &Name) -> bool
+pub fn is_among<T: Named>(things: &[T], name: &Name) -> bool
     ensures { result ≡ is_among (map T.called things.now) name.now }
 {
     for thing in things {

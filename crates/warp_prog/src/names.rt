@@ -1,14 +1,18 @@
 //! Names that stand for nothing of the kind that their place asks.
-ghost use Rattle.std.specs.Prelude.{◌≡◌, not, map};
+ghost use Rattle.std.specs.Prelude.{◌≡◌, not, map, option_map};
 ghost use Rattle.std.specs.List.{list_any};
-ghost use Rattle.warp_prog.specs.Names.{called_unknown, link_unknown, is_input, is_output, names_unknown, texts_unknown};
-ghost use Rattle.warp_prog.specs.View.{file_tree, reactor_tree, reaction_tree};
+ghost use Rattle.warp_prog.specs.Names.{begin_unknown, can_wait, called_unknown, link_unknown, is_input, is_output, names_unknown, texts_unknown};
+ghost use Rattle.warp_prog.specs.View.{begin_tree, file_tree, reactor_tree, reaction_tree};
 ghost use Rattle.warp_prog.specs.inner.Rule.{fits, has_port, reaction_breaks, unknown_in_role};
 ghost use Rattle.warp_prog.specs.declared.file.InputPart.{InputPart};
+ghost use Rattle.warp_prog.specs.declared.file.PendingPart.{PendingPart};
 
 use crate::explain::reason::Reason;
 use crate::explain::trail::{Segment, Trail};
-use crate::file::{CalledPart, InputPart, LinkPart, PortName, ProgramFile, Reaction, Reactor};
+use crate::file::{
+    Beginning, CalledPart, InputPart, LinkPart, PendingPart, PortName, ProgramFile, Reaction,
+    Reactor,
+};
 use crate::name::Name;
 use crate::named::is_same;
 use crate::role::{Role, fits};
@@ -23,6 +27,7 @@ pub(crate) fn names_unknown<'f>(file: &'f ProgramFile, at: &mut Trail<'f>) -> bo
         || any_link(&file.reactors, &file.links, at)
         || any_input(&file.reactors, &file.inputs, at)
         || any_output(&file.reactors, &file.outputs, at)
+        || begin_unknown(&file.reactors, &file.begin, at)
 }
 
 /// Whether a name in a reaction stands for nothing of the kind that its place asks; of reactions whose names are known,
@@ -177,6 +182,34 @@ fn any_output<'f>(reactors: &'f [Reactor], outputs: &'f [PortName], at: &mut Tra
     for (i, port) in outputs.iter().enumerate() {
         if lacks_port(reactors, port, Role::Output, Segment::Of("outputs", i), at) {
             return true;
+        }
+    }
+    false
+}
+
+/// Whether something is pending where a file begins that cannot be.
+fn begin_unknown<'f>(
+    reactors: &'f [Reactor],
+    begin: &'f Option<Beginning>,
+    at: &mut Trail<'f>,
+) -> bool
+    ensures { result ≡ begin_unknown (map reactor_tree reactors.now) (option_map begin_tree begin.now) }
+{
+    match begin {
+        None => false,
+        Some(begin) => {
+            any_pending(reactors, &begin.pending, at) && at.back(Segment::Key("begin"))
+        }
+    }
+}
+
+fn any_pending<'f>(reactors: &'f [Reactor], pending: &'f [PendingPart], at: &mut Trail<'f>) -> bool
+    ensures { result ≡
+        list_any (λ (p : PendingPart). not (can_wait (map reactor_tree reactors.now) p.target)) pending.now }
+{
+    for (i, entry) in pending.iter().enumerate() {
+        if lacks_port(reactors, &entry.target, Role::Cause, Segment::Item(2), at) {
+            return at.back(Segment::Of("pending", i));
         }
     }
     false

@@ -17,6 +17,7 @@ ghost use Rattle.warp_prog.specs.inner.Room.{HasRoom, HaveRoom};
 ghost use Rattle.warp_prog.specs.View.{file_tree, reactor_tree};
 ghost use Rattle.warp_prog.specs.declared.file.InputPart.{InputPart};
 
+mod begin;
 mod body;
 pub(crate) mod place;
 pub(crate) mod reaction;
@@ -24,6 +25,7 @@ mod reactor;
 
 use crate::file::{InputPart, LinkPart, PortName, ProgramFile, Reactor};
 use crate::limits::form_of_version;
+use crate::numbered::begin::numbered_begin;
 use crate::numbered::place::{nothing_before, past, source_number, target_number};
 use crate::numbered::reactor::{
     add_actions, add_cells, add_ports, add_reactions, add_timers, add_variables,
@@ -54,6 +56,7 @@ pub(crate) fn numbered(alloc: Global, file: &ProgramFile) -> Result<Parts, OutOf
     let links = numbered_links(alloc, reactors, &file.links)?;
     let inputs = numbered_inputs(alloc, reactors, &file.inputs)?;
     let outputs = numbered_outputs(alloc, reactors, &file.outputs)?;
+    let begin = numbered_begin(alloc, reactors, &file.begin)?;
     let first = nothing_before(variables_in(reactors));
     let Contents {
         variables,
@@ -79,6 +82,7 @@ pub(crate) fn numbered(alloc: Global, file: &ProgramFile) -> Result<Parts, OutOf
         links,
         inputs,
         outputs,
+        begin,
     })
 }
 

@@ -14,7 +14,8 @@ use crate::named::{is_among, is_startup};
 pub(crate) enum Role {
     /// What an expression reads: a variable, an input or an action.
     Value,
-    /// What triggers a reaction, or may be present: an input, an action, a timer or `startup`.
+    /// What triggers a reaction, or may be present, or pending where a program begins: an input, an action, a timer or
+    /// `startup`.
     Cause,
     /// What a body sets.
     Variable,

@@ -1,23 +1,25 @@
 //! Names and ports that stand twice where they may stand once.
-ghost use Rattle.std.specs.Prelude.{◌≡◌, ◌≤◌, ◌+◌, ◌-◌, ◌||◌, List, [], ℕ, map, unwrap_or, bytes_eq, SomeIff, if◌then◌else◌};
+ghost use Rattle.std.specs.Prelude.{◌≡◌, ◌≤◌, ◌+◌, ◌-◌, ◌||◌, List, [], ℕ, map, option_map, unwrap_or, bytes_eq, SomeIff, if◌then◌else◌};
 ghost use Rattle.std.specs.List.{list_any};
 ghost use Rattle.warp_prog.specs.File.{ReactorPart};
 ghost use Rattle.warp_prog.specs.Twice.{how_often, stands_twice, repeats, reactor_names, all_names, same_port, targets};
-ghost use Rattle.warp_prog.specs.Twice.{names_twice, texts_twice};
+ghost use Rattle.warp_prog.specs.Twice.{begin_twice, names_twice, same_entry, same_target, texts_twice};
 ghost use Rattle.warp_prog.specs.Uses.{array_names, startup, action_names, timer_names};
-ghost use Rattle.warp_prog.specs.View.{file_tree, reactor_tree};
+ghost use Rattle.warp_prog.specs.View.{begin_tree, file_tree, reactor_tree};
 ghost use Rattle.warp_prog.specs.declared.file.CalledPart.{CalledPart};
 ghost use Rattle.warp_prog.specs.declared.file.PortName.{PortName};
 
-use crate::file::{CalledPart, InputPart, LinkPart, PortName, ProgramFile, Reactor};
+use crate::file::{
+    Beginning, CalledPart, InputPart, LinkPart, PendingPart, PortName, ProgramFile, Reactor,
+};
 use crate::name::Name;
-use crate::named::{Named, is_same};
+use crate::named::{Named, is_same, is_startup};
 
 /// How often a name or a port may stand.
 const ONCE: usize = 1;
 
-/// Whether a reactor's name or a name within a reactor stands twice, an input has two sources, or an output is listed
-/// twice.
+/// Whether a reactor's name or a name within a reactor stands twice, an input has two sources, an output is listed
+/// twice, or something is pending twice where the file begins.
 pub(crate) fn names_twice(file: &ProgramFile) -> bool
     ensures { result ≡ names_twice (file_tree file.now) }
 {
@@ -26,6 +28,7 @@ pub(crate) fn names_twice(file: &ProgramFile) -> bool
         || any_texts_repeat(&file.reactors)
         || targets_repeat(&file.links, &file.inputs)
         || outputs_repeat(&file.outputs)
+        || begin_repeats(&file.begin)
 }
 
 fn reactors_repeat(reactors: &[Reactor]) -> bool
@@ -321,6 +324,53 @@ fn outputs_repeat(outputs: &[PortName]) -> bool
         }
     }
     false
+}
+
+/// Whether something is pending twice where a file begins.
+fn begin_repeats(begin: &Option<Beginning>) -> bool
+    ensures { result ≡ begin_twice (option_map begin_tree begin.now) }
+{
+    match begin {
+        None => false,
+        Some(begin) => pending_repeats(&begin.pending),
+    }
+}
+
+fn pending_repeats(pending: &[PendingPart]) -> bool
+    ensures { result ≡ repeats same_entry pending.now }
+{
+    for entry in pending {
+        if room_for_entry(pending, entry, ONCE).is_none() {
+            return true;
+        }
+    }
+    false
+}
+
+/// The room that is left of so much after the entries at this one's tag, to its target; `None` where it is not enough.
+fn room_for_entry(pending: &[PendingPart], entry: &PendingPart, room: usize) -> Option<usize>
+    ensures { let n = how_often same_entry pending.now entry.now in SomeIff result (n ≤ room) (room - n) }
+{
+    let mut left = room;
+    for other in pending {
+        if is_same_entry(entry, other) {
+            left = left.checked_sub(1)?;
+        }
+    }
+    Some(left)
+}
+
+pub(crate) fn is_same_entry(a: &PendingPart, b: &PendingPart) -> bool
+    ensures { result ≡ same_entry a.now b.now }
+{
+    a.time == b.time && a.microstep == b.microstep && is_same_target(&a.target, &b.target)
+}
+
+/// Whether two references are to the same thing that may be pending: all reactors have one `startup`.
+fn is_same_target(a: &PortName, b: &PortName) -> bool
+    ensures { result ≡ same_target a.now b.now }
+{
+    is_same(&a.port, &b.port) && (is_same(&a.reactor, &b.reactor) || is_startup(&a.port))
 }
 
 /// The room that is left of so much after the things that refer to this port; `None` where it is not enough.

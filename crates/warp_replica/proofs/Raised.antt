@@ -5,7 +5,8 @@ use Rattle.warp_tag.specs.declared.form.Form.{Form}
 use Rattle.warp_tag.specs.declared.form.Form.TheVariants.{One, Two, Three, Four}
 use Rattle.warp_step.specs.Program.{Program, raised, raised_to}
 use Rattle.warp_step.specs.Snapshot.{Snapshot}
-use Rattle.warp_step.specs.Run.{KeepsRun}
+use Rattle.warp_step.specs.Run.{KeepsRun, state_at_end}
+use Rattle.warp_step.proofs.RaisedBegins.{start_raised}
 use Rattle.warp_step.proofs.RaisedRuns.{run_raised}
 use Rattle.warp_record.specs.declared.line.Query.{Query}
 use Rattle.warp_record.specs.declared.line.Query.TheVariants as query
@@ -32,7 +33,7 @@ raised_answers f P S a h kept =
       live = h.live;
       trace = h.trace;
       run = run_raised f P h.events h.trace h.run kept;
-      state = h.state;
+      state = h.state ∙ ap (λ (s : Snapshot). state_at_end s h.trace) (sym (start_raised f P));
       outputs = h.outputs;
       count = h.count;
       horizon = record { some = h.horizon.some; least = h.horizon.least };

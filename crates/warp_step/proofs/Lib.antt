@@ -1,5 +1,10 @@
 pub mod AgainLemmas
 pub mod AnyOrder
+pub mod BeginLemmas
+pub mod ContinuedTags
+pub mod ContinuedSteps
+pub mod ContinuedRuns
+pub mod ContinuedPrograms
 pub mod DueBodies
 pub mod DueLemmas
 pub mod EntryMoves
@@ -8,12 +13,15 @@ pub mod FrontLemmas
 pub mod HeededLemmas
 pub mod MarkLemmas
 pub mod OnceLists
+pub mod OrderOfRun
+pub mod WishesOfStep
 pub mod OutputsBefore
 pub mod OutputsOfRun
 pub mod PartedLists
 pub mod PendingLemmas
 pub mod PlaceLemmas
 pub mod PlanLemmas
+pub mod RaisedBegins
 pub mod RaisedPrograms
 pub mod RaisedRuns
 pub mod ReactLemmas

@@ -117,7 +117,7 @@ point_is_front p [] n le point = omega arith
 point_is_front p (w ∷ ws) n le point = sym (prefix_len_is p (w ∷ ws) n w le (λ i lt. point.0 i w (omega arith) lt) (λ lt. point.1 n w (omega arith) lt))
 
 -- one more entry that is ahead
-with_ahead : (t : Moment) (k : Target) (v : ℤ) (w : Waiting) (ws : List Waiting) → ahead t k w ≡ true → with_entry t k v (w ∷ ws) ≡ w ∷ with_entry t k v ws
+pub with_ahead : (t : Moment) (k : Target) (v : ℤ) (w : Waiting) (ws : List Waiting) → ahead t k w ≡ true → with_entry t k v (w ∷ ws) ≡ w ∷ with_entry t k v ws
 with_ahead t k v w ws a = rw (ahead_not_before t k w a, ahead_not_at t k w a) refl
 
 any_ahead : (t : Moment) (k : Target) (w : Waiting) (ws : List Waiting) → ahead t k w ≡ true → list_any (has_key t k) (w ∷ ws) ≡ list_any (has_key t k) ws
@@ -138,12 +138,12 @@ front_none t k w ws p = elim (cases_Bool (ahead t k w)) [
 ]
 
 -- no entry above a key is at a key that is not after it
-none_above : (t : Moment) (k : Target) (ws : List Waiting) → Above t k ws → list_any (has_key t k) ws ≡ false
+pub none_above : (t : Moment) (k : Target) (ws : List Waiting) → Above t k ws → list_any (has_key t k) ws ≡ false
 none_above t k [] all = refl
 none_above t k (w ∷ ws) all = rw (before_not_at t k w all.0) (none_above t k ws all.1)
 
 -- what comes after an entry comes after what is before that
-above_trans : (t : Moment) (k : Target) (w : Waiting) (ws : List Waiting) → key_before t k w ≡ true → Above w.tag w.target ws → Above t k ws
+pub above_trans : (t : Moment) (k : Target) (w : Waiting) (ws : List Waiting) → key_before t k w ≡ true → Above w.tag w.target ws → Above t k ws
 above_trans t k w [] h all = tt
 above_trans t k w (v ∷ ws) h all = (key_before_trans t k w v h all.0, above_trans t k w ws h all.1)
 

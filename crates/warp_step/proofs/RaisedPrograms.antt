@@ -14,6 +14,7 @@ use Rattle.warp_step.specs.Events.{IsEventOf, IsNameOf, has_input, is_declared, 
 use Rattle.warp_step.specs.Order.{is_admissible, keeps_before, precedes}
 use Rattle.warp_step.specs.Program.{Program, Rule, raised_to, top_of}
 use Rattle.warp_step.specs.Valid.{body_may, has, have_reactors, is_distinct, is_readable, is_valid, is_within_limits, is_writable, leads_on, link_fits, names, owns_cells, owns_variable, rule_fits, statement_may, term_may}
+use Rattle.warp_step.proofs.RaisedBegins.{begin_raised}
 use Rattle.warp_step.specs.declared.parts.Action.{Action}
 use Rattle.warp_step.specs.declared.parts.Link.{Link}
 use Rattle.warp_step.specs.declared.parts.Timer.{Timer}
@@ -205,7 +206,8 @@ module _ (f : Form) (P : Program) where
 
   pub valid_raised : IsTrue (is_valid P) → IsTrue (is_valid (raised_to f P))
   valid_raised h =
-      let a = and_parts _ _ h in
+      let all = and_parts _ _ h in
+      let a = and_parts _ _ all.0 in
       let b = and_parts _ _ a.0 in
       let c = and_parts _ _ b.0 in
       let d = and_parts _ _ c.0 in
@@ -219,7 +221,7 @@ module _ (f : Form) (P : Program) where
       all_weaker (link_fits P) (link_fits (raised_to f P)) link_in P.links i.0 in
       let reactions = and_from _ _ (and_from _ _ (limits_in e.0) (reactors_in e.1)) (and_from _ _ rules k.1) in
       let ends = and_from _ _ (and_from _ _ links i.1) g.1 in
-      and_from _ _ (and_from _ _ (and_from _ _ reactions ends) b.1) (admissible_in ∙ a.1)
+      and_from _ _ (and_from _ _ (and_from _ _ (and_from _ _ reactions ends) b.1) (admissible_in ∙ a.1)) (begin_raised f P all.1)
 
   -- a tag in time is in time
   time_in : (tag : Moment) → IsTrue (is_in_time P tag) → IsTrue (is_in_time (raised_to f P) tag)

@@ -13,18 +13,21 @@ use Rattle.warp_tag.specs.declared.form.Form.{Form}
 use Rattle.warp_tag.specs.declared.tag.Landing.{Landing}
 use Rattle.warp_tag.specs.declared.tag.Landing.TheVariants.{At, PastStop, PastMicro}
 use Rattle.warp_tag.proofs.Forms.{microstep_kept}
-use Rattle.warp_body.specs.Presence.{Presence, present_at, with_value}
+use Rattle.warp_body.specs.Told.{told_since}
+use Rattle.warp_body.specs.Presence.{Presence, nothing_present, present_at, with_value}
 use Rattle.warp_body.specs.declared.place.Target.{Target}
 use Rattle.warp_body.specs.declared.place.Target.TheVariants as to
 use Rattle.warp_body.specs.declared.stmt.Wish.{Wish}
-use Rattle.warp_step.specs.Program.{Program, delay_of, raised_to, top_of}
+use Rattle.warp_step.specs.Program.{Begun, Program, delay_of, raised_to, top_of}
 use Rattle.warp_step.specs.Run.{KeepsRun, Row, Run, RunFrom, given_at, state_at_end}
 use Rattle.warp_step.specs.Snapshot.{Snapshot, entered_where, has_key, landed, start_state, with_entry, with_loss}
-use Rattle.warp_step.specs.Step.{Reacting, Step, absent, after_reactions, arrived, arrived_entries, delivered, no_wishes, outputs_after, outputs_from, port_of, present_first, react, reacted, repeats, state_after, with_all_wishes, with_links, with_repeats, with_wish, with_wishes, without_entries}
+use Rattle.warp_step.specs.Step.{Reacting, Step, absent, after_reactions, arrived, arrived_entries, delivered, no_wishes, outputs_after, outputs_from, port_of, present_first, sources_of, react, reacted, repeats, state_after, with_all_wishes, with_links, with_repeats, with_wish, with_wishes, without_entries}
 use Rattle.warp_step.specs.declared.given_input.Given.{Given}
 use Rattle.warp_step.specs.declared.parts.Link.{Link}
 use Rattle.warp_step.specs.declared.parts.Timer.{Timer}
 use Rattle.warp_step.specs.declared.pending.Waiting.{Waiting}
+use Rattle.warp_step.specs.Valid.{program_places}
+use Rattle.warp_step.proofs.RaisedBegins.{beginning_raised, start_raised}
 use Rattle.warp_step.proofs.TraceLemmas.{one_rest}
 
 -- where one more is lost, something is
@@ -173,8 +176,16 @@ module _ (f : Form) (P : Program) where
   arrived_in [] present = refl
   arrived_in (g ∷ gs) present = arrived_in gs (with_value (to.Port (port_of P g.input)) g.value present)
 
+  absent_in : (t : Moment) → absent (raised_to f P) t ≡ absent P t
+  absent_in t =
+      ap (λ (b : Option Begun). nothing_present (told_since (option_map_or (λ x. x.since) b 0) t) (program_places P) (sources_of P))
+      (beginning_raised f P)
+
   first_in : (s : Snapshot) (t : Moment) (X : List Given) → present_first (raised_to f P) s t X ≡ present_first P s t X
-  first_in s t X = arrived_in X (arrived_entries (filter (λ w. is_same w.tag t) s.pending) (absent P t))
+  first_in s t X =
+      let here = filter (λ w. is_same w.tag t) s.pending in
+      arrived_in X (arrived_entries here (absent (raised_to f P) t))
+      ∙ ap (λ (p : Presence). arrived P X (arrived_entries here p)) (absent_in t)
 
   reacted_in : (s : Snapshot) (t : Moment) (X : List Given) → reacted (raised_to f P) s t X ≡ reacted P s t X
   reacted_in s t X =
@@ -225,7 +236,9 @@ module _ (f : Form) (P : Program) where
 
   pub run_raised : (E : List Event) (trace : List Row) → Run P E trace → KeepsRun f P trace
       → Run (raised_to f P) E trace
-  run_raised E trace run h = (rows_alike E None (start_state P) trace run h).1
+  run_raised E trace run h =
+      subst (λ (s : Snapshot). RunFrom (raised_to f P) E None s trace) (sym (start_raised f P))
+      (rows_alike E None (start_state P) trace run h).1
 
   -- and the raised program has no other
   pub run_same : (E : List Event) (trace other : List Row) → Run P E trace → Run (raised_to f P) E other

@@ -9,7 +9,7 @@ use Rattle.warp_body.specs.declared.place.Target.TheVariants as to
 use Rattle.warp_step.specs.Program.{Program}
 use Rattle.warp_step.specs.Valid.{program_places}
 use Rattle.warp_step.specs.Snapshot.{Snapshot, landed}
-use Rattle.warp_step.specs.Step.{absent, arrived, repeats, sources_of, with_repeats}
+use Rattle.warp_step.specs.Step.{absent, arrived, repeats, sources_of, with_repeats, told_tag}
 use Rattle.warp_step.specs.declared.given_input.Given.{Given}
 use Rattle.warp_step.specs.declared.parts.Timer.{Timer}
 use Rattle.warp_step.specs.inner.Due.{AreDue}
@@ -61,4 +61,4 @@ none_alone P t s = none_repeats P t (absent P t) 0 P.timers s (none_at (length P
 
 -- where nothing is present, any marks do
 pub absent_due : (P : Program) (t : Moment) (present : Presence) (word : ℕ) → present ≡ absent P t → AreDue P present word
-absent_due P t present word is = subst (λ (p : Presence). AreDue P p word) (sym is) (none_due P t (program_places P) (sources_of P) word)
+absent_due P t present word is = subst (λ (p : Presence). AreDue P p word) (sym is) (none_due P (told_tag P t) (program_places P) (sources_of P) word)

@@ -67,7 +67,7 @@ module _ (end : Moment) where
           (stays_past t x.tag end past here, by xs rest)
 
   -- so where the first row is not, none is
-  no_rows : (P : Program) (E : List Event) (last : Option Moment) (s : Snapshot) (row : Row) (rows : List Row) → is_before row.tag end ≡ false
+  pub no_rows : (P : Program) (E : List Event) (last : Option Moment) (s : Snapshot) (row : Row) (rows : List Row) → is_before row.tag end ≡ false
       → RunFrom P E last s (row ∷ rows) → rows_until end (row ∷ rows) ≡ []
   no_rows P E last s row rows past run =
       filter_none (λ r. is_before r.tag end) (row ∷ rows) (past, none_early P E row.tag row.state rows past run.2)

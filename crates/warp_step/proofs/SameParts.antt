@@ -9,7 +9,7 @@ use Rattle.warp_body.specs.declared.place.Target.{Target}
 use Rattle.warp_body.specs.declared.place.Target.TheVariants as to
 use Rattle.warp_step.specs.Order.{in_order, is_admissible, keeps_before, precedes}
 use Rattle.warp_step.specs.Program.{Program, Rule}
-use Rattle.warp_step.specs.Valid.{body_may, has, have_reactors, is_distinct, is_readable, is_valid, is_within_limits, is_writable, leads_on, link_fits, names, owns_cells, owns_variable, rule_fits, statement_may, term_may}
+use Rattle.warp_step.specs.Valid.{begin_fits, body_may, has, have_reactors, is_distinct, is_readable, is_valid, is_within_limits, is_writable, leads_on, link_fits, names, owns_cells, owns_variable, rule_fits, statement_may, term_may}
 use Rattle.warp_step.specs.declared.parts.Link.{Link}
 use Rattle.warp_step.proofs.ValidLemmas.{validity}
 
@@ -103,7 +103,8 @@ module _ (P : Program) (order : List ℕ) where
   pub valid_in : IsTrue (is_valid P) → IsTrue (is_admissible P order) → IsTrue (is_valid (in_order P order))
   valid_in valid admissible =
       let v = validity P valid in
-      let a = and_parts _ _ (and_parts _ _ valid).0 in
+      let whole = and_parts _ _ valid in
+      let a = and_parts _ _ (and_parts _ _ whole.0).0 in
       let b = and_parts _ _ a.0 in
       let c = and_parts _ _ b.0 in
       let sizes : IsTrue (is_within_limits (in_order P order) && have_reactors (in_order P order)) = c.0 in
@@ -111,8 +112,11 @@ module _ (P : Program) (order : List ℕ) where
       ap (λ (fits : Rule → Bool). list_all fits P.reactions) (λ i r. rule_in r i) ∙ v.rules in
       let links : IsTrue (list_all (link_fits (in_order P order)) P.links) =
       ap (λ (fits : Link → Bool). list_all fits P.links) (λ i l. link_in l i) ∙ v.links in
+      let begin : IsTrue (begin_fits (in_order P order)) = whole.1 in
       and_from _ _
+      (and_from _ _
       (and_from _ _
       (and_from _ _ (and_from _ _ sizes (and_from _ _ rules v.rising)) (and_from _ _ (and_from _ _ links v.inputs) v.fed_once))
       (and_from _ _ v.outputs v.outputs_once))
-      (admissible_in ∙ admissible)
+      (admissible_in ∙ admissible))
+      begin

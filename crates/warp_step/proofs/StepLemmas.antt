@@ -13,7 +13,7 @@ use Rattle.warp_body.specs.declared.stmt.Wish.{Wish}
 use Rattle.warp_step.specs.Program.{Program}
 use Rattle.warp_step.specs.Valid.{is_valid, program_places, program_sizes}
 use Rattle.warp_step.specs.Snapshot.{Snapshot, IsStateOf, landed}
-use Rattle.warp_step.specs.Step.{CanStep, Reacting, absent, sources_of, present_first, without_entries, repeats, with_repeats, after_reactions, no_wishes, reacted, with_all_wishes, with_links, with_wishes, state_after}
+use Rattle.warp_step.specs.Step.{CanStep, Reacting, absent, sources_of, present_first, without_entries, repeats, with_repeats, after_reactions, no_wishes, reacted, with_all_wishes, with_links, with_wishes, state_after, told_tag}
 use Rattle.warp_step.specs.declared.given_input.Given.{Given}
 use Rattle.warp_step.specs.declared.parts.Timer.{Timer}
 use Rattle.warp_step.proofs.VariablesOfRun.{landed_vars, same_vars}
@@ -21,7 +21,7 @@ use Rattle.warp_step.proofs.TagsOfStep.{later}
 use Rattle.warp_step.proofs.TargetsOfStep.{step_is}
 
 -- what is cleared, of the program's places and sources, is absent
-pub cleared : (P : Program) (t : Moment) (places : Places) (sources : List ℕ) → places ≡ program_places P → sources ≡ sources_of P → nothing_present t places sources ≡ absent P t
+pub cleared : (P : Program) (t : Moment) (places : Places) (sources : List ℕ) → places ≡ program_places P → sources ≡ sources_of P → nothing_present (told_tag P t) places sources ≡ absent P t
 cleared P t places sources h k = rw (h, k) refl
 
 -- what is cleared keeps its places

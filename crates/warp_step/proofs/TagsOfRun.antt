@@ -75,8 +75,8 @@ rows_left T M P E last s (r ∷ rows) box was pending run =
     omega arith
 
 -- what is pending at the start is inside
-pub start_inside : (T M : ℕ) (P : Program) → P.stop ≤ T → all_at (is_inside T M) (start_state P) ≡ true
-start_inside T M P stop = start_at P (is_inside T M) (λ time within. grind (arith, nat_tests))
+pub start_inside : (T M : ℕ) (P : Program) → P.stop ≤ T → top_of P ≤ M → all_at (is_inside T M) (start_state P) ≡ true
+start_inside T M P stop top = start_at P (is_inside T M) (λ u within. grind (arith, nat_tests))
 
 -- events that a program takes are in time, inside the program's own box
 pub events_in_time : (P : Program) (E : List Event) → IsTrue (list_all (event_fits P) E) → IsTrue (list_all (λ e. is_in_time P e.tag) E)
@@ -98,13 +98,13 @@ pub few_rows : (P : Program) (E : List Event) (rows : List Row) → P.stop ≤ l
 few_rows P E rows stop top fits run =
     let events = events_in_time P E fits in
     let box : Holds P.stop (top_of P) P E = record { stop = omega arith; top = omega arith; events = events } in
-    let few = rows_left P.stop (top_of P) P E None (start_state P) rows box refl (start_inside P.stop (top_of P) P box.stop) run in
+    let few = rows_left P.stop (top_of P) P E None (start_state P) rows box refl (start_inside P.stop (top_of P) P box.stop box.top) run in
     let all = size_few P.stop (top_of P) stop top in
     omega arith
 
 -- what is pending is after the last row, at the start and so everywhere in a run
 pub start_after : (P : Program) → all_at (is_after None) (start_state P) ≡ true
-start_after P = start_at P (is_after None) (λ time within. refl)
+start_after P = start_at P (is_after None) (λ u within. refl)
 
 -- then nothing is pending before the next row
 pub none_before : (E : List Event) (last : Option Moment) (s : Snapshot) (t : Moment) → all_at (is_after last) s ≡ true → IsNext E last s t

@@ -10,8 +10,8 @@ use Rattle.warp_body.specs.Presence.{Presence, present_at}
 use Rattle.warp_body.specs.declared.place.Target.{Target}
 use Rattle.warp_body.specs.declared.place.Target.TheVariants as to
 use Rattle.warp_body.specs.declared.stmt.Wish.{Wish}
-use Rattle.warp_step.specs.Program.{Program, delay_of, starts_of, top_of}
-use Rattle.warp_step.specs.Snapshot.{Snapshot, key_before, has_key, with_entry, entered, landed, first_tag, begins, with_timers, with_startup, start_state}
+use Rattle.warp_step.specs.Program.{Begun, Program, beginning_of, delay_of, starts_of, top_of}
+use Rattle.warp_step.specs.Snapshot.{Snapshot, key_before, has_key, with_entry, entered, landed, first_tag, begins, with_pending, with_timers, with_startup, start_in, start_state}
 use Rattle.warp_step.specs.Events.{is_in_time}
 use Rattle.warp_step.specs.Step.{present_first, without_entries, repeats, with_repeats, reacted, with_wish, with_wishes, with_all_wishes, delivered, with_links, state_after}
 use Rattle.warp_step.specs.declared.given_input.Given.{Given}
@@ -54,7 +54,7 @@ entered_at p tag target value s here h = elim (cases_Bool (list_any (has_key tag
 -- a test that all tags pass that land from a tag
 module _ (P : Program) (t : Moment) (p : Moment → Bool) (good : (u : Moment) → lands P t u ≡ true → p u ≡ true) where
   -- what is pending passes it, with what lands too
-  landed_at : (delay : ℕ) (target : Target) (value : ℤ) (s : Snapshot) → all_at p s ≡ true → all_at p (landed P t delay target value s) ≡ true
+  pub landed_at : (delay : ℕ) (target : Target) (value : ℤ) (s : Snapshot) → all_at p s ≡ true → all_at p (landed P t delay target value s) ≡ true
   landed_at delay target value s h = elim (cases_Bool (delay == 0)) [
     | inl now ↦ elim (cases_Bool (nat_le (t.microstep + 1) (top_of P))) [
       | inl room ↦
@@ -78,7 +78,7 @@ module _ (P : Program) (t : Moment) (p : Moment → Bool) (good : (u : Moment) �
   repeated_at true period number s h = landed_at period (to.Timer number) (pos 0) s h
   repeated_at false period number s h = h
 
-  repeats_at : (present : Presence) (number : ℕ) (timers : List Timer) (s : Snapshot) → all_at p s ≡ true
+  pub repeats_at : (present : Presence) (number : ℕ) (timers : List Timer) (s : Snapshot) → all_at p s ≡ true
       → all_at p (with_repeats P t present number timers s) ≡ true
   repeats_at present number [] s h = h
   repeats_at present number (timer ∷ timers) s h =
@@ -87,23 +87,23 @@ module _ (P : Program) (t : Moment) (p : Moment → Bool) (good : (u : Moment) �
       (repeated_at again timer.period number s h)
 
   -- actions that reactions wish
-  wishes_at : (ws : List Wish) (s : Snapshot) → all_at p s ≡ true → all_at p (with_wishes P t ws s) ≡ true
+  pub wishes_at : (ws : List Wish) (s : Snapshot) → all_at p s ≡ true → all_at p (with_wishes P t ws s) ≡ true
   wishes_at [] s h = h
   wishes_at (w ∷ ws) s h =
       wishes_at ws (with_wish P t w s) (landed_at (delay_of P w.action + w.delay) (to.Action w.action) w.value s h)
 
-  all_wishes_at : (wss : List (List Wish)) (s : Snapshot) → all_at p s ≡ true → all_at p (with_all_wishes P t wss s) ≡ true
+  pub all_wishes_at : (wss : List (List Wish)) (s : Snapshot) → all_at p s ≡ true → all_at p (with_all_wishes P t wss s) ≡ true
   all_wishes_at [] s h = h
   all_wishes_at (ws ∷ wss) s h = all_wishes_at wss (with_wishes P t ws s) (wishes_at ws s h)
 
   -- values that links deliver
-  delivered_at : (target : ℕ) (value : Option ℤ) (delay : Option ℕ) (s : Snapshot) → all_at p s ≡ true
+  pub delivered_at : (target : ℕ) (value : Option ℤ) (delay : Option ℕ) (s : Snapshot) → all_at p s ≡ true
       → all_at p (delivered P t target value delay s) ≡ true
   delivered_at target None delay s h = h
   delivered_at target (Some v) None s h = h
   delivered_at target (Some v) (Some d) s h = landed_at d (to.Port target) v s h
 
-  links_at : (present : Presence) (ls : List Link) (s : Snapshot) → all_at p s ≡ true → all_at p (with_links P t present ls s) ≡ true
+  pub links_at : (present : Presence) (ls : List Link) (s : Snapshot) → all_at p s ≡ true → all_at p (with_links P t present ls s) ≡ true
   links_at present [] s h = h
   links_at present (l ∷ ls) s h =
       links_at present ls (delivered P t l.target (present_at present (to.Port l.source)) l.delay s)
@@ -154,15 +154,19 @@ in_time P s t X here h =
     let time : t.time ≤ P.stop = grind (arith, nat_tests) in
     in_box P s t X P.stop (top_of P) (omega arith) (omega arith) time h
 
--- a test that all tags pass at which something may be pending at the start: the first microsteps up to the stop
-module _ (P : Program) (p : Moment → Bool) (good : (time : ℕ) → time ≤ P.stop → p (record { time = time; microstep = 0 }) ≡ true) where
+-- a tag at the first microstep of a time up to the stop is in time
+first_in_time : (P : Program) (time : ℕ) → time ≤ P.stop → is_in_time P (record { time = time; microstep = 0 }) ≡ true
+first_in_time P time within = grind (arith, nat_tests)
+
+-- a test that all tags pass at which something may be pending at the start: those in time
+module _ (P : Program) (p : Moment → Bool) (good : (u : Moment) → is_in_time P u ≡ true → p u ≡ true) where
   -- one timer, all timers, and startup
   timer_at : (offset number : ℕ) (s : Snapshot) → all_at p s ≡ true
       → all_at p (if nat_le offset P.stop then entered (record { time = offset; microstep = 0 }) (to.Timer number) (pos 0) s else s) ≡ true
   timer_at offset number s h = elim (cases_Bool (nat_le offset P.stop)) [
     | inl reached ↦
         let within : offset ≤ P.stop = grind (arith, nat_tests) in
-        rw reached (entered_at p (record { time = offset; microstep = 0 }) (to.Timer number) (pos 0) s (good offset within) h)
+        rw reached (entered_at p (record { time = offset; microstep = 0 }) (to.Timer number) (pos 0) s (good _ (first_in_time P offset within)) h)
     | inr past ↦ rw past h
   ]
 
@@ -175,17 +179,34 @@ module _ (P : Program) (p : Moment → Bool) (good : (time : ℕ) → time ≤ P
   startup_at : (s : Snapshot) → all_at p s ≡ true → all_at p (with_startup P s) ≡ true
   startup_at s h = elim (cases_Bool (begins P)) [
     | inl triggers ↦
-        let one = entered_at p first_tag to.Startup (pos 0) s (good 0 (omega arith)) h in
+        let one = entered_at p first_tag to.Startup (pos 0) s (good _ (first_in_time P 0 (omega arith))) h in
         rw triggers one
     | inr none ↦ rw none h
   ]
 
-  -- all that is pending at the start passes it
-  pub start_at : all_at p (start_state P) ≡ true
-  start_at =
+  -- one entry in time, and all such entries
+  chosen_at : (b : Bool) (x s : Snapshot) → (b ≡ true → all_at p x ≡ true) → all_at p s ≡ true → all_at p (if b then x else s) ≡ true
+  chosen_at true x s f h = f refl
+  chosen_at false x s f h = h
+
+  timely_at : (w : Waiting) (s : Snapshot) → all_at p s ≡ true
+      → all_at p (if is_in_time P w.tag then entered w.tag w.target w.value s else s) ≡ true
+  timely_at w s h = chosen_at (is_in_time P w.tag) (entered w.tag w.target w.value s) s (λ timely. entered_at p w.tag w.target w.value s (good w.tag timely) h) h
+
+  pending_at : (ws : List Waiting) (s : Snapshot) → all_at p s ≡ true → all_at p (with_pending P ws s) ≡ true
+  pending_at [] s h = h
+  pending_at (w ∷ ws) s h = pending_at ws (if is_in_time P w.tag then entered w.tag w.target w.value s else s) (timely_at w s h)
+
+  -- all that is pending at the start passes it, however the program begins
+  start_by : (b : Option Begun) → all_at p (start_in P b) ≡ true
+  start_by None =
       let bare : Snapshot = record { vars = starts_of P; pending = []; lost = 0 } in
       timers_at 0 P.timers (with_startup P bare) (startup_at bare refl)
+  start_by (Some b) = pending_at b.pending (record { vars = starts_of P; pending = []; lost = b.lost }) refl
+
+  pub start_at : all_at p (start_state P) ≡ true
+  start_at = start_by (beginning_of P)
 
 -- all that is pending at the start is in time
 pub start_in_time : (P : Program) → IsTrue (list_all (λ w. is_in_time P w.tag) (start_state P).pending)
-start_in_time P = start_at P (is_in_time P) (λ time within. grind (arith, nat_tests))
+start_in_time P = start_at P (is_in_time P) (λ u within. within)

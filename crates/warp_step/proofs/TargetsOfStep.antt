@@ -1,5 +1,5 @@
 -- What is pending at the start and after a step is for targets of the program, so these states are the program's.
-use Rattle.std.proofs.Common.{◌≡◌, inl, inr, ℕ, ℤ, suc, ◌+◌, ◌<◌, Bool, true, false, not, ◌&&◌, ◌||◌, nat_lt, nat_le, IsTrue, List, [], ◌∷◌, length, filter, Option, Some, None, refl, arith, ◌∙◌}
+use Rattle.std.proofs.Common.{◌≡◌, inl, inr, ℕ, ℤ, suc, ◌+◌, ◌<◌, Bool, true, false, not, ◌&&◌, ◌||◌, nat_lt, nat_le, IsTrue, List, [], ◌∷◌, length, filter, Option, Some, None, refl, ap, arith, ◌∙◌}
 use Rattle.std.specs.Prelude.{pos, if◌then◌else◌}
 use Rattle.std.specs.List.{list_all, list_any}
 use Rattle.std.proofs.lemmas.Bool.{cases_Bool, and_parts, and_from, lt-ltb, le-leb}
@@ -13,9 +13,9 @@ use Rattle.warp_body.specs.Effect.{wish_fits}
 use Rattle.warp_body.specs.declared.place.Target.{Target}
 use Rattle.warp_body.specs.declared.place.Target.TheVariants as to
 use Rattle.warp_body.specs.declared.stmt.Wish.{Wish}
-use Rattle.warp_step.specs.Program.{Program, delay_of, starts_of, top_of}
+use Rattle.warp_step.specs.Program.{Begun, Program, beginning_of, delay_of, starts_of, top_of}
 use Rattle.warp_step.specs.Valid.{is_valid, link_fits, program_places, program_sizes}
-use Rattle.warp_step.specs.Snapshot.{Snapshot, IsStateOf, entry_fits, key_before, has_key, with_entry, entered, entered_where, landed, first_tag, begins, with_timers, with_startup, start_state}
+use Rattle.warp_step.specs.Snapshot.{Snapshot, IsStateOf, entry_fits, key_before, has_key, with_entry, entered, entered_where, landed, first_tag, begins, with_pending, with_timers, with_startup, start_in, start_state}
 use Rattle.warp_step.specs.Events.{is_in_time}
 use Rattle.warp_step.specs.Step.{CanStep, present_first, without_entries, repeats, with_repeats, reacted, with_wish, with_wishes, with_all_wishes, delivered, with_links, state_after}
 use Rattle.warp_step.specs.declared.given_input.Given.{Given}
@@ -23,6 +23,7 @@ use Rattle.warp_step.specs.declared.parts.Link.{Link}
 use Rattle.warp_step.specs.declared.parts.Timer.{Timer}
 use Rattle.warp_step.specs.declared.pending.Waiting.{Waiting}
 use Rattle.warp_step.proofs.ValidLemmas.{list_all_weaker, validity, link_target}
+use Rattle.warp_step.proofs.BeginLemmas.{begin_cases, beginning}
 use Rattle.warp_step.proofs.TagsOfStep.{in_time, start_in_time}
 use Rattle.warp_step.proofs.VariablesOfRun.{step_vars, start_many}
 
@@ -134,14 +135,14 @@ module _ (P : Program) where
       (delivered_to t l.target (present_at present (to.Port l.source)) l.delay s fit h)
 
   -- what is pending at the start is for the program's targets
-  start_to : all_to fits (start_state P) ≡ true
-  start_to =
+  fresh_to : all_to fits (start_in P None) ≡ true
+  fresh_to =
       let bare : Snapshot = record { vars = starts_of P; pending = []; lost = 0 } in
       let begun = either_to fits (begins P) (entered first_tag to.Startup (pos 0) bare) bare (entered_to fits first_tag to.Startup (pos 0) bare refl refl) refl in
       timers_to 0 P.timers (with_startup P bare) (omega arith) begun
 
   -- and after a step what was, and what is entered
-  step_to : (s : Snapshot) (t : Moment) (X : List Given) → IsTrue (is_valid P) → IsTrue (list_all (list_all (wish_fits (program_sizes P))) (reacted P s t X).wishes)
+  pub step_to : (s : Snapshot) (t : Moment) (X : List Given) → IsTrue (is_valid P) → IsTrue (list_all (list_all (wish_fits (program_sizes P))) (reacted P s t X).wishes)
       → all_to fits s ≡ true → all_to fits (state_after P s t X) ≡ true
   step_to s t X valid wishes h =
       let r = reacted P s t X in
@@ -174,9 +175,27 @@ module _ (P : Program) where
   fit_tags : (ws : List Waiting) → IsTrue (list_all (entry_fits P) ws) → IsTrue (list_all (λ w. is_in_time P w.tag) ws)
   fit_tags ws h = list_all_weaker (entry_fits P) (λ w. is_in_time P w.tag) (λ w x. (fit_parts w x).1) ws h
 
+  pending_to : (ws : List Waiting) (s : Snapshot) → list_all (λ w. fits w.target) ws ≡ true → all_to fits s ≡ true
+      → all_to fits (with_pending P ws s) ≡ true
+  pending_to [] s own h = h
+  pending_to (w ∷ ws) s own h =
+      let both = and_parts (fits w.target) (list_all (λ v. fits v.target) ws) own in
+      let there = entered w.tag w.target w.value s in
+      pending_to ws (if is_in_time P w.tag then there else s) both.1
+      (either_to fits (is_in_time P w.tag) there s (entered_to fits w.tag w.target w.value s both.0 h) h)
+
+  pub start_to : IsTrue (is_valid P) → all_to fits (start_state P) ≡ true
+  start_to valid = elim (begin_cases P valid) [
+    | inl fresh ↦ ap (λ (b : Option Begun). all_to fits (start_in P b)) fresh ∙ fresh_to
+    | inr (b, begun, good) ↦
+        ap (λ (x : Option Begun). all_to fits (start_in P x)) begun
+        ∙ pending_to b.pending (record { vars = starts_of P; pending = []; lost = b.lost })
+        (fit_targets b.pending (beginning P b good).entries) refl
+  ]
+
   -- the start state is the program's
-  pub start_is : IsStateOf P (start_state P)
-  start_is = record { vars = start_many P; entries = fit_both (start_state P).pending start_to (start_in_time P) }
+  pub start_is : IsTrue (is_valid P) → IsStateOf P (start_state P)
+  start_is valid = record { vars = start_many P; entries = fit_both (start_state P).pending (start_to valid) (start_in_time P) }
 
   -- and so is the state after a step from one of its states
   pub step_is : (s : Snapshot) (t : Moment) (X : List Given) → IsTrue (is_valid P) → IsTrue (list_all (list_all (wish_fits (program_sizes P))) (reacted P s t X).wishes)

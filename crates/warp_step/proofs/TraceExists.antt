@@ -197,4 +197,4 @@ pub exists : (P : Program) (E : List Event) → (trace : List Row) × Run P E tr
 exists P E =
     let boxed = some_box P E in
     exists_from boxed.0 boxed.1 P E boxed.2 (size boxed.0 boxed.1) None (start_state P) refl
-    (start_inside boxed.0 boxed.1 P boxed.2.stop) (omega arith)
+    (start_inside boxed.0 boxed.1 P boxed.2.stop boxed.2.top) (omega arith)

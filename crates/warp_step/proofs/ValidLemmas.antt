@@ -16,7 +16,7 @@ use Rattle.warp_body.specs.declared.place.Target.{Target}
 use Rattle.warp_body.specs.declared.place.Target.TheVariants as to
 use Rattle.warp_step.specs.Program.{Program, Rule, delay_of, top_of}
 use Rattle.warp_step.specs.Step.{port_of}
-use Rattle.warp_step.specs.Valid.{is_valid, is_within_limits, is_distinct, is_rising, fed, has, names, is_readable, is_writable, owns_cells, owns_variable, term_may, statement_may, body_may, rule_fits, link_fits, leads_on, input_fits, program_places, program_sizes}
+use Rattle.warp_step.specs.Valid.{begin_fits, is_valid, is_within_limits, is_distinct, is_rising, fed, has, names, is_readable, is_writable, owns_cells, owns_variable, term_may, statement_may, body_may, rule_fits, link_fits, leads_on, input_fits, program_places, program_sizes}
 use Rattle.warp_step.specs.Order.{is_admissible}
 use Rattle.warp_step.specs.declared.parts.Action.{Action}
 use Rattle.warp_step.specs.declared.parts.Link.{Link}
@@ -103,10 +103,12 @@ pub record Validity (P : Program) : Type 0 where
   pub outputs : IsTrue (list_all (λ n. has P.ports n (λ p. not p.is_input)) P.outputs)
   pub outputs_once : IsTrue (is_distinct P.outputs)
   pub order : IsTrue (is_admissible P P.order)
+  pub begin : IsTrue (begin_fits P)
 
 pub validity : (P : Program) → IsTrue (is_valid P) → Validity P
 validity P h =
-    let whole = and_parts _ _ h in
+    let all = and_parts _ _ h in
+    let whole = and_parts _ _ all.0 in
     let a = and_parts _ _ whole.0 in
     let b = and_parts _ _ a.0 in
     let c = and_parts _ _ b.0 in
@@ -132,6 +134,7 @@ validity P h =
       outputs = l.0;
       outputs_once = l.1;
       order = whole.1;
+      begin = all.1;
     }
 
 -- an element that is there has a number below the length

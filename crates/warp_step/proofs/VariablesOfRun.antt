@@ -19,13 +19,15 @@ use Rattle.warp_body.specs.Term.{value_of, is_true}
 use Rattle.warp_body.specs.declared.place.Target.{Target}
 use Rattle.warp_body.specs.declared.place.Target.TheVariants as to
 use Rattle.warp_body.specs.declared.stmt.Wish.{Wish}
-use Rattle.warp_step.specs.Program.{Program, Rule, delay_of, starts_of, top_of}
-use Rattle.warp_step.specs.Snapshot.{Snapshot, entered, entered_where, landed, with_timers, with_startup, start_state, has_key, begins, first_tag}
+use Rattle.warp_step.specs.Program.{Begun, beginning_of, Program, Rule, delay_of, starts_of, top_of}
+use Rattle.warp_step.specs.Events.{is_in_time}
+use Rattle.warp_step.specs.Snapshot.{start_in, with_pending, Snapshot, entered, entered_where, landed, with_timers, with_startup, start_state, has_key, begins, first_tag}
 use Rattle.warp_step.specs.Step.{Reacting, is_triggered, react, after_reactions, present_first, no_wishes, reacted, without_entries, with_repeats, with_wish, with_wishes, with_all_wishes, delivered, with_links, state_after}
 use Rattle.warp_step.specs.Run.{Row, Run, RunFrom, state_at_end, given_at}
 use Rattle.warp_step.specs.declared.given_input.Given.{Given}
 use Rattle.warp_step.specs.declared.parts.Link.{Link}
 use Rattle.warp_step.specs.declared.parts.Timer.{Timer}
+use Rattle.warp_step.specs.declared.pending.Waiting.{Waiting}
 
 -- either of two with as many variables has as many
 chosen : (b : Bool) (x y : Effect) (n : ℕ) → length x.vars ≡ n → length y.vars ≡ n → length (if b then x else y).vars ≡ n
@@ -127,11 +129,22 @@ timers_vars stop number (t ∷ ts) s =
     ∙ same_vars (nat_le t.offset stop) there s (entered_vars (record { time = t.offset; microstep = 0 }) (to.Timer number) (pos 0) s)
 
 -- the start state has the program's variables
-pub start_vars : (P : Program) → (start_state P).vars ≡ starts_of P
-start_vars P =
+pending_vars : (P : Program) (ws : List Waiting) (s : Snapshot) → (with_pending P ws s).vars ≡ s.vars
+pending_vars P [] s = refl
+pending_vars P (w ∷ ws) s =
+    let there = entered w.tag w.target w.value s in
+    pending_vars P ws (if is_in_time P w.tag then there else s)
+    ∙ same_vars (is_in_time P w.tag) there s (entered_vars w.tag w.target w.value s)
+
+start_by : (P : Program) (b : Option Begun) → (start_in P b).vars ≡ starts_of P
+start_by P (Some b) = pending_vars P b.pending (record { vars = starts_of P; pending = []; lost = b.lost })
+start_by P None =
     let bare : Snapshot = record { vars = starts_of P; pending = []; lost = 0 } in
     timers_vars P.stop 0 P.timers (with_startup P bare)
     ∙ same_vars (begins P) (entered first_tag to.Startup (pos 0) bare) bare (entered_vars first_tag to.Startup (pos 0) bare)
+
+pub start_vars : (P : Program) → (start_state P).vars ≡ starts_of P
+start_vars P = start_by P (beginning_of P)
 
 -- it has as many as the program
 pub start_many : (P : Program) → length (start_state P).vars ≡ length P.variables

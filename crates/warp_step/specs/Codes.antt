@@ -1,18 +1,21 @@
 -- Codes of programs, so that a model's value may have one: a record is stored as its fields.
 use Rattle.std.specs.Prelude.{◌≡◌, ℕ, zero, suc, ℤ, Bool, List, Option, refl}
 use Rattle.std.specs.Coded.{Coded, code_by, coded×, coded_ℕ, coded_ℤ, coded_bool, coded_list, coded_option}
+use Rattle.warp_tag.specs.Codes.{moment_code}
+use Rattle.warp_tag.specs.Moment.{Moment}
 use Rattle.warp_tag.specs.declared.form.Form.{Form}
 use Rattle.warp_tag.specs.declared.form.Form.TheVariants.{One, Two, Three, Four}
 use Rattle.warp_body.specs.Codes.{body_code, target_code}
 use Rattle.warp_body.specs.Effect.{Body}
 use Rattle.warp_body.specs.declared.place.Target.{Target}
-use Rattle.warp_step.specs.Program.{Program, Rule}
+use Rattle.warp_step.specs.Program.{Begun, Program, Rule}
 use Rattle.warp_step.specs.declared.parts.Variable.{Variable}
 use Rattle.warp_step.specs.declared.parts.Port.{Port}
 use Rattle.warp_step.specs.declared.parts.Action.{Action}
 use Rattle.warp_step.specs.declared.parts.Timer.{Timer}
 use Rattle.warp_step.specs.declared.parts.Link.{Link}
 use Rattle.warp_step.specs.declared.parts.ProgramInput.{ProgramInput}
+use Rattle.warp_step.specs.declared.pending.Waiting.{Waiting}
 
 abbrev pub variable_code : Coded Variable
 variable_code =
@@ -50,6 +53,17 @@ rule_code =
     (λ p. record { reactor = p.0; triggers = p.1.0; reads = p.1.1.0; writes = p.1.1.1.0; body = p.1.1.1.1 })
     (λ _. refl)
 
+-- a tag, a target and a value
+abbrev pub waiting_code : Coded Waiting
+waiting_code =
+    code_by (Moment × (Target × ℤ)) (coded× moment_code (coded× target_code coded_ℤ))
+    (λ w. (w.tag, (w.target, w.value))) (λ p. record { tag = p.0; target = p.1.0; value = p.1.1 }) (λ _. refl)
+
+abbrev pub begun_code : Coded Begun
+begun_code =
+    code_by (List Waiting × (ℕ × ℕ)) (coded× (coded_list waiting_code) (coded× coded_ℕ coded_ℕ))
+    (λ b. (b.pending, (b.lost, b.since))) (λ p. record { pending = p.0; lost = p.1.0; since = p.1.1 }) (λ _. refl)
+
 -- a form as a number, and the form of a number
 abbrev pub form_index : Form → ℕ
 form_index One = 0
@@ -72,7 +86,7 @@ read_form Four = refl
 abbrev pub form_code : Coded Form
 form_code = code_by ℕ coded_ℕ form_index form_at read_form
 
--- its form and three numbers, and nine lists
+-- its form and three numbers, nine lists, and where it begins
 abbrev pub Numbers : Type 0
 Numbers = Form × (ℕ × (ℕ × ℕ))
 
@@ -80,7 +94,7 @@ abbrev pub Things : Type 0
 Things = List Variable × (List Port × (List Action × List Timer))
 
 abbrev pub Wiring : Type 0
-Wiring = List Rule × (List ℕ × (List Link × (List ProgramInput × List ℕ)))
+Wiring = List Rule × (List ℕ × (List Link × (List ProgramInput × (List ℕ × Option Begun))))
 
 abbrev pub numbers_code : Coded Numbers
 numbers_code = coded× form_code (coded× coded_ℕ (coded× coded_ℕ coded_ℕ))
@@ -90,7 +104,9 @@ things_code = coded× (coded_list variable_code) (coded× (coded_list port_code)
 
 abbrev pub wiring_code : Coded Wiring
 wiring_code =
-    coded× (coded_list rule_code) (coded× (coded_list coded_ℕ) (coded× (coded_list link_code) (coded× (coded_list input_code) (coded_list coded_ℕ))))
+    coded× (coded_list rule_code)
+    (coded× (coded_list coded_ℕ)
+    (coded× (coded_list link_code) (coded× (coded_list input_code) (coded× (coded_list coded_ℕ) (coded_option begun_code)))))
 
 -- a program is stored as its parts
 abbrev pub program_code : Coded Program
@@ -98,7 +114,7 @@ program_code =
     code_by (Numbers × (Things × Wiring)) (coded× numbers_code (coded× things_code wiring_code))
     (λ P. (
       (P.form, (P.stop, (P.origins, P.reactors))),
-      ((P.variables, (P.ports, (P.actions, P.timers))), (P.reactions, (P.order, (P.links, (P.inputs, P.outputs))))),
+      ((P.variables, (P.ports, (P.actions, P.timers))), (P.reactions, (P.order, (P.links, (P.inputs, (P.outputs, P.begin)))))),
     ))
     (λ p. record {
       form = p.0.0;
@@ -113,6 +129,7 @@ program_code =
       order = p.1.1.1.0;
       links = p.1.1.1.1.0;
       inputs = p.1.1.1.1.1.0;
-      outputs = p.1.1.1.1.1.1;
+      outputs = p.1.1.1.1.1.1.0;
+      begin = p.1.1.1.1.1.1.1;
     })
     (λ _. refl)

@@ -9,6 +9,7 @@ pub mod Step
 pub mod Scratch
 pub mod Run
 pub mod Events
+pub mod Continued
 pub mod Twice
 pub mod Counter
 pub mod Labelled

@@ -1,4 +1,5 @@
 -- The state of a program between two steps.
+pub use Rattle.warp_step.specs.Valid.{entry_fits}
 use Rattle.std.specs.Prelude.{◌≡◌, ℕ, ℤ, pos, ◌+◌, Bool, ◌&&◌, ◌||◌, nat_lt, nat_le, IsTrue, List, [], ◌∷◌, length, Option, Some, None, if◌then◌else◌}
 use Rattle.std.specs.List.{list_all, list_any, AllByRecursion}
 use Rattle.warp_tag.specs.Limits.{most_pending, greatest_count}
@@ -9,7 +10,8 @@ use Rattle.warp_tag.specs.declared.tag.Landing.TheVariants.{At, PastStop, PastMi
 use Rattle.warp_body.specs.Presence.{target_fits, target_before, is_target}
 use Rattle.warp_body.specs.declared.place.Target.{Target}
 use Rattle.warp_body.specs.declared.place.Target.TheVariants as to
-use Rattle.warp_step.specs.Program.{Program, starts_of, top_of}
+use Rattle.warp_step.specs.Program.{Begun, Program, beginning_of, starts_of, top_of}
+use Rattle.warp_step.specs.Events.{is_in_time}
 use Rattle.warp_step.specs.Valid.{program_places, names}
 use Rattle.warp_step.specs.declared.parts.Timer.{Timer}
 use Rattle.warp_step.specs.declared.pending.Waiting.{Waiting}
@@ -84,13 +86,20 @@ with_timers stop number (t ∷ ts) s =
 abbrev pub with_startup : Program → Snapshot → Snapshot
 with_startup P s = if begins P then entered first_tag to.Startup (pos 0) s else s
 
--- the state that a program starts in: start values, startup and timers pending, nothing lost
-abbrev pub start_state : Program → Snapshot
-start_state P = with_timers P.stop 0 P.timers (with_startup P (record { vars = starts_of P; pending = []; lost = 0 }))
+-- with these entries, one after another, each at a tag that the program executes
+abbrev pub with_pending : Program → List Waiting → Snapshot → Snapshot
+with_pending P [] s = s
+with_pending P (w ∷ ws) s = with_pending P ws (if is_in_time P w.tag then entered w.tag w.target w.value s else s)
 
--- the entry is for a target of the program, at a tag that the program executes
-abbrev pub entry_fits : Program → Waiting → Bool
-entry_fits P w = target_fits (program_places P) w.target && nat_le w.tag.time P.stop && nat_le w.tag.microstep (top_of P)
+-- What a program starts in, by where it begins: start values, startup and timers pending, nothing lost. One that goes on from
+-- another one has pending what was pending there, and has lost what was lost there.
+abbrev pub start_in : Program → Option Begun → Snapshot
+start_in P None = with_timers P.stop 0 P.timers (with_startup P (record { vars = starts_of P; pending = []; lost = 0 }))
+start_in P (Some b) = with_pending P b.pending (record { vars = starts_of P; pending = []; lost = b.lost })
+
+-- the state that a program starts in
+abbrev pub start_state : Program → Snapshot
+start_state P = start_in P (beginning_of P)
 
 -- a state of this program: it has its variables, and what is pending is for its targets, at tags that it executes
 pub record IsStateOf (P : Program) (s : Snapshot) : Type 0 where

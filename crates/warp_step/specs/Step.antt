@@ -3,11 +3,12 @@ use Rattle.std.specs.Prelude.{◌≡◌, ℕ, ℤ, pos, ◌+◌, ◌≤◌, Bool
 use Rattle.std.specs.Option.{option_map_or}
 use Rattle.std.specs.List.{list_any, list_all}
 use Rattle.warp_tag.specs.Moment.{Moment, is_before, is_same}
+use Rattle.warp_body.specs.Told.{told_since}
 use Rattle.warp_body.specs.Presence.{Presence, nothing_present, present_at, with_value}
 use Rattle.warp_body.specs.Effect.{Effect, effect_of}
 use Rattle.warp_body.specs.declared.place.Target.TheVariants as to
 use Rattle.warp_body.specs.declared.stmt.Wish.{Wish}
-use Rattle.warp_step.specs.Program.{Rule, Program, delay_of, top_of}
+use Rattle.warp_step.specs.Program.{Rule, Program, delay_of, since_of, top_of}
 use Rattle.warp_step.specs.Valid.{is_distinct, program_places}
 use Rattle.warp_step.specs.Snapshot.{Snapshot, IsStateOf, landed}
 use Rattle.warp_step.specs.declared.parts.Link.{Link}
@@ -29,9 +30,13 @@ source_of (l ∷ ls) port = if is_none l.delay && l.target == port then l.source
 abbrev pub sources_of : Program → List ℕ
 sources_of P = map (source_of P.links) (numbers 0 P.ports)
 
+-- a tag as the program's bodies are told it: counted from where the first program began
+abbrev pub told_tag : Program → Moment → Moment
+told_tag P t = told_since (since_of P) t
+
 -- nothing of the program is present at a tag
 abbrev pub absent : Program → Moment → Presence
-absent P t = nothing_present t (program_places P) (sources_of P)
+absent P t = nothing_present (told_tag P t) (program_places P) (sources_of P)
 
 -- the first part: the entries at the tag are present with their values, and each given input at its port
 

@@ -1,5 +1,5 @@
 -- The program `twice`: input a, of origin 0, doubles the total and adds; input b, of origin 1, subtracts; each puts the total.
-use Rattle.std.specs.Prelude.{pos, true, false, [], ◌∷◌}
+use Rattle.std.specs.Prelude.{pos, true, false, [], ◌∷◌, None}
 use Rattle.warp_tag.specs.declared.form.Form.TheVariants.{One}
 use Rattle.warp_body.specs.Term.{Constant, VariableAt, ValueAt, OfTwo}
 use Rattle.warp_body.specs.Effect.{SetVariable, PutOutput, Done, Then}
@@ -46,4 +46,5 @@ twice = record {
   links = [];
   inputs = (record { origin = 0; port = 0 }) ∷ (record { origin = 1; port = 1 }) ∷ [];
   outputs = 2 ∷ [];
+  begin = None;
 }

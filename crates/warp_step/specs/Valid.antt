@@ -2,17 +2,21 @@
 pub use Rattle.warp_step.specs.Named.{is_distinct, is_rising, has, names, reactor_of}
 use Rattle.std.specs.Prelude.{ℕ, ◌+◌, Bool, true, false, not, ◌&&◌, ◌==◌, nat_lt, nat_le, List, ◌++◌, length, map, take, drop, Option, Some, None}
 use Rattle.std.specs.List.{list_all}
-use Rattle.warp_tag.specs.Limits.{longest_stop, longest_period, most_origins, most_reactors, most_variables, most_ports, most_actions, most_timers, most_reactions, most_links, most_inputs, most_outputs, most_wishes}
+use Rattle.std.specs.Option.{option_map_or}
+use Rattle.warp_tag.specs.Limits.{greatest_count, most_pending, longest_stop, longest_period, most_origins, most_reactors, most_variables, most_ports, most_actions, most_timers, most_reactions, most_links, most_inputs, most_outputs, most_wishes}
+use Rattle.warp_body.specs.Told.{latest_beginning}
+use Rattle.warp_body.specs.Presence.{target_fits}
 use Rattle.warp_body.specs.Term.{Term, Constant, VariableAt, ValueAt, PresentAt, OfOne, OfTwo, Choice, ProductOver, CellAt, TimeNow, MicrostepNow}
 use Rattle.warp_body.specs.Effect.{Statement, SetVariable, PutOutput, ScheduleAction, Choose, SetCell, Repeat, Body, Done, Then, schedules_of}
 use Rattle.warp_body.specs.declared.place.Places.{Places}
 use Rattle.warp_body.specs.declared.place.Sizes.{Sizes}
 use Rattle.warp_body.specs.declared.place.Target.{Target}
 use Rattle.warp_body.specs.declared.place.Target.TheVariants as to
-use Rattle.warp_step.specs.Program.{Rule, Program}
+use Rattle.warp_step.specs.Program.{Begun, Rule, Program, goes_on, top_of}
 use Rattle.warp_step.specs.Order.{is_admissible}
 use Rattle.warp_step.specs.declared.parts.Link.{Link}
 use Rattle.warp_step.specs.declared.parts.ProgramInput.{ProgramInput}
+use Rattle.warp_step.specs.declared.pending.Waiting.{Waiting}
 
 -- how many targets it has of each kind
 abbrev pub program_places : Program → Places
@@ -116,12 +120,27 @@ have_reactors P =
     && list_all (λ a. nat_lt a.reactor P.reactors && nat_le a.delay (longest_period P.form)) P.actions
     && list_all (λ t. nat_lt t.reactor P.reactors && nat_le t.offset (longest_period P.form) && nat_le t.period (longest_period P.form)) P.timers
 
+-- the entry is for a target of the program, at a tag that the program executes
+abbrev pub entry_fits : Program → Waiting → Bool
+entry_fits P w = target_fits (program_places P) w.target && nat_le w.tag.time P.stop && nat_le w.tag.microstep (top_of P)
+
+-- what is pending where a program begins fits it and is not too much, and counts are in range
+abbrev pub begun_fits : Program → Begun → Bool
+begun_fits P b =
+    list_all (entry_fits P) b.pending && nat_le (length b.pending) most_pending && nat_le b.lost greatest_count
+    && nat_le b.since latest_beginning
+
+-- it begins by itself, or it goes on from another one, as its form may, and that fits
+abbrev pub begin_fits : Program → Bool
+begin_fits P = option_map_or (λ b. goes_on P.form && begun_fits P b) P.begin true
+
 -- a program: within the limits; reactions in the order of their reactors; all that is named is there and may be named;
--- no input port has two sources; no port stands twice among the outputs; and its order is one that they may run in
+-- no input port has two sources; no port stands twice among the outputs; its order is one that they may run in; and where it
+-- begins fits
 abbrev pub is_valid : Program → Bool
 is_valid P =
     is_within_limits P && have_reactors P
     && (list_all (rule_fits P) P.reactions && is_rising (map (λ r. r.reactor) P.reactions))
     && (list_all (link_fits P) P.links && list_all (input_fits P) P.inputs && is_distinct (fed P))
     && (list_all (λ n. has P.ports n (λ p. not p.is_input)) P.outputs && is_distinct P.outputs)
-    && is_admissible P P.order
+    && is_admissible P P.order && begin_fits P

@@ -55,6 +55,7 @@ impl Program {
             links: Vec::new(alloc),
             inputs,
             outputs,
+            begin: None,
         }))
     }
 }

@@ -1,12 +1,15 @@
 //! Laws over programs and their runs.
-ghost use Rattle.std.specs.Prelude.{◌≡◌, ℕ, false, IsTrue, List, length, map, take};
+ghost use Rattle.std.specs.Prelude.{◌≡◌, ℕ, ◌+◌, ◌≤◌, false, IsTrue, List, length, map, take};
 ghost use Rattle.std.specs.List.{list_all};
 ghost use Rattle.warp_tag.specs.Lists.{StartsWith};
 ghost use Rattle.warp_tag.specs.declared.form.Form.{Form};
 ghost use Rattle.warp_tag.specs.Moment.{Moment, is_before};
 ghost use Rattle.warp_tag.specs.Table.{Event};
-ghost use Rattle.warp_step.specs.Program.{Program, raised, raised_to};
-ghost use Rattle.warp_step.specs.Events.{IsEventOf, IsNameOf};
+ghost use Rattle.warp_tag.specs.declared.form.Form.TheVariants.{Four};
+ghost use Rattle.warp_body.specs.Told.{latest_beginning};
+ghost use Rattle.warp_step.specs.Program.{Program, raised, raised_to, since_of};
+ghost use Rattle.warp_step.specs.Continued.{events_from, going_on, outputs_from_time, rows_from, state_less, tag_more};
+ghost use Rattle.warp_step.specs.Events.{IsEventOf, IsNameOf, event_fits, takes, takes_name};
 ghost use Rattle.warp_step.specs.Order.{file_order, in_order, is_admissible, leads_later};
 ghost use Rattle.warp_step.specs.Valid.{is_rising, is_valid, rule_fits};
 ghost use Rattle.warp_step.specs.Snapshot.{Snapshot, start_state};
@@ -89,6 +92,32 @@ pub fn raised_run()
         IsEventOf (raised P) origin tag input }
     ensures takes_name { (P : Program) (origin : ℕ) (tag : Moment) → IsNameOf P origin tag →
         IsNameOf (raised P) origin tag }
+{}
+
+/// A law: a program of the fourth form goes on from its own run, cut at a time up to its stop, as if it had not been
+/// cut. The program that goes on is valid, takes what this one takes from the time on, and has the rows, states and
+/// outputs of its run from there on, all with times counted from the cut, and no other run.
+pub fn continued_run()
+    ensures valid { (T : ℕ) (P : Program) (E : List Event) (trace : List Row) → IsTrue (is_valid P) → P.form ≡ Four →
+        T ≤ P.stop → since_of P + T ≤ latest_beginning → IsTrue (list_all (event_fits P) E) → Run P E trace →
+        IsTrue (is_valid (going_on T P trace)) }
+    ensures run { (T : ℕ) (P : Program) (E : List Event) (trace : List Row) → P.form ≡ Four → T ≤ P.stop →
+        IsTrue (list_all (event_fits P) E) → Run P E trace →
+        Run (going_on T P trace) (events_from T E) (rows_from T trace) }
+    ensures unique { (T : ℕ) (P : Program) (E : List Event) (trace other : List Row) → P.form ≡ Four → T ≤ P.stop →
+        IsTrue (list_all (event_fits P) E) → Run P E trace → Run (going_on T P trace) (events_from T E) other →
+        other ≡ rows_from T trace }
+    ensures state { (T : ℕ) (P : Program) (E : List Event) (trace other : List Row) → P.form ≡ Four → T ≤ P.stop →
+        IsTrue (list_all (event_fits P) E) → Run P E trace → Run (going_on T P trace) (events_from T E) other →
+        state_at_end (start_state (going_on T P trace)) other ≡
+        state_less T (state_at_end (start_state P) trace) }
+    ensures outputs { (T : ℕ) (P : Program) (E : List Event) (trace other : List Row) → P.form ≡ Four → T ≤ P.stop →
+        IsTrue (list_all (event_fits P) E) → Run P E trace → Run (going_on T P trace) (events_from T E) other →
+        outputs_of other ≡ outputs_from_time T (outputs_of trace) }
+    ensures takes { (T : ℕ) (P : Program) (trace : List Row) (origin : ℕ) (tag : Moment) (input : ℕ) → T ≤ P.stop →
+        takes (going_on T P trace) origin tag input ≡ takes P origin (tag_more T tag) input }
+    ensures takes_name { (T : ℕ) (P : Program) (trace : List Row) (origin : ℕ) (tag : Moment) → T ≤ P.stop →
+        takes_name (going_on T P trace) origin tag ≡ takes_name P origin (tag_more T tag) }
 {}
 
 /// A law: a program raised to a form is valid and takes what it took, and where its run lost nothing, or its times have

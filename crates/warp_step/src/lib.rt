@@ -8,6 +8,7 @@
 
 mod array_label;
 mod arrive;
+mod begin;
 mod builtin_twice;
 mod counter;
 mod enter;
@@ -26,10 +27,12 @@ mod reaction;
 mod state;
 
 pub use array_label::ArrayLabel;
+pub use begin::Begin;
 pub use counter::Counter;
 pub use given_input::Given;
 pub use law::{
-    any_order, early_outputs, early_rows, file_order_is_admissible, one_trace, outputs_begin,
+    any_order, continued_run, early_outputs, early_rows, file_order_is_admissible, one_trace,
+    outputs_begin,
 };
 pub use meter::Meter;
 pub use one_step::{Scratch, step};

@@ -23,7 +23,7 @@ use crate::react::{put_outputs, run_reactions};
 use crate::state::State;
 use std::alloc::Global;
 use std::marker::Model;
-use warp_body::{Places, Present, Wishes};
+use warp_body::{Places, Present, ToldTag, Wishes};
 use warp_tag::{Out, OutOfMemory, Tag};
 
 /// Room that the steps of one program share: its targets with what is present, whom each of them concerns, the bodies,
@@ -196,7 +196,7 @@ fn advance(
     ensures due { AreDue program.now present.new result.word }
 {
     program.valid();
-    present.clear(tag);
+    present.clear(ToldTag::counted(program.since(), tag));
     let taken = state.take_entries(program, plan, tag, present);
     let mut due = taken.marks;
     let mut triggered_turn = taken.first;

@@ -1,4 +1,5 @@
 //! The parts of a program: plain data, which need not fit together.
+use crate::begin::Begin;
 use crate::reaction::Reaction;
 use warp_tag::Form;
 
@@ -92,4 +93,6 @@ pub struct Parts {
     pub inputs: Vec<ProgramInput>,
     /// The ports of the program outputs, at most the form's `most_outputs`.
     pub outputs: Vec<u32>,
+    /// Where it begins, if it goes on from another one. Only a program of the fourth form does.
+    pub begin: Option<Begin>,
 }

@@ -1,5 +1,5 @@
 //! The pending entries of a state: sorted by tag, then by target, each tag and target once.
-ghost use Rattle.std.specs.Prelude.{◌≡◌, ℤ, ◌<◌, ◌≤◌, ◌||◌, IsTrue, nat_lt, length, slice_set, true, if◌then◌else◌};
+ghost use Rattle.std.specs.Prelude.{◌≡◌, ◌↔◌, ℤ, ◌<◌, ◌≤◌, ◌||◌, IsTrue, nat_lt, length, slice_set, true, if◌then◌else◌};
 ghost use Rattle.std.specs.List.{list_any, insert, prefix_len};
 ghost use Rattle.warp_tag.specs.Limits.{most_pending};
 ghost use Rattle.warp_tag.specs.Moment.{is_before, is_same};
@@ -42,6 +42,13 @@ impl Waiting {
     {
         tag.is_same(self.tag) && target.is_same(self.target)
     }
+}
+
+/// Whether these are the same entries.
+pub(crate) fn same_entries(a: &[Waiting], b: &[Waiting]) -> bool
+    ensures { IsTrue result ↔ (a.now ≡ b.now) }
+{
+    a == b
 }
 
 /// Whether the entry is at the tag and to a timer: to a target with the period that all timers share.

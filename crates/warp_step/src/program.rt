@@ -1,16 +1,19 @@
 //! Programs: how the code keeps one, what it tells, copies and comparison.
-ghost use Rattle.std.specs.Prelude.{◌≡◌, ◌↔◌, ℕ, ◌<◌, ◌≤◌, IsTrue, IfOk, length, map};
+ghost use Rattle.std.specs.Prelude.{◌≡◌, ◌↔◌, ℕ, ◌<◌, ◌≤◌, IsTrue, IfOk, length, map, option_map};
 ghost use Rattle.warp_tag.specs.Limits.{last_microstep, longest_period, widest};
-ghost use Rattle.warp_step.specs.Program.{rule_of, delay_of, raised, raised_to, top_of};
+ghost use Rattle.warp_body.specs.Told.{latest_beginning};
+ghost use Rattle.warp_step.specs.Program.{rule_of, delay_of, goes_on, raised, raised_to, since_of, top_of};
+ghost use Rattle.warp_step.specs.Events.{is_in_time};
 ghost use Rattle.warp_step.specs.Snapshot.{begins};
-ghost use Rattle.warp_step.specs.View.{program_of};
+ghost use Rattle.warp_step.specs.View.{begun_of, program_of};
 ghost use Rattle.warp_step.specs.Valid.{is_valid};
 
+use crate::begin::{Begin, copy_begin, same_begin, since_in};
 use crate::parts::{Action, Link, Parts, Port, ProgramInput, Timer, Variable};
 use crate::reaction::{Reaction, begins, copy_reactions, same_reactions};
 use std::alloc::Global;
 use std::marker::Model;
-use warp_tag::{Form, OutOfMemory};
+use warp_tag::{Form, OutOfMemory, Tag};
 
 /// A reactor program, valid by its type: within the limits, and with parts that fit together.
 #[derive(Debug, Drop)]
@@ -75,6 +78,13 @@ impl Program {
         ensures { result ≡ self.now.stop }
     {
         self.parts.stop
+    }
+
+    /// Whether it executes the tag: neither the stop nor the last microstep is before it.
+    pub(crate) fn executes(&self, tag: Tag) -> bool
+        ensures { result ≡ is_in_time self.now tag }
+    {
+        tag.time() <= self.stop() && tag.micro() <= self.top()
     }
 
     /// How many origins there are, 1 to the form's `most_origins`.
@@ -155,6 +165,22 @@ impl Program {
         &self.parts.outputs
     }
 
+    /// Where it begins, if it goes on from another program. What is pending there fits this one.
+    pub fn begin(&self) -> Option<&Begin>
+        ensures { option_map (λ b. begun_of b.now) result ≡ self.now.begin }
+    {
+        self.parts.begin.as_ref()
+    }
+
+    /// The time at which it begins, counted from where the first program began: 0 where it goes on from no other one.
+    #[inline(always)]
+    pub fn since(&self) -> u64
+        ensures since { result ≡ since_of self.now }
+        ensures range { result ≤ latest_beginning }
+    {
+        since_in(&self.parts.begin)
+    }
+
     /// The port that a program input leads to.
     pub fn port(&self, input: u32) -> u32
         requires { input < length self.now.inputs }
@@ -214,6 +240,9 @@ impl Parts {
     fn raise_to(mut self, form: Form) -> Parts
         ensures { program_of result ≡ raised_to form (program_of self) }
     {
+        if !goes_on(self.form) {
+            self.begin = None;
+        }
         self.form = form.or_wider(self.form);
         self
     }
@@ -231,6 +260,7 @@ impl Parts {
         let links = self.links.as_slice().to_vec(alloc)?;
         let inputs = self.inputs.as_slice().to_vec(alloc)?;
         let outputs = self.outputs.as_slice().to_vec(alloc)?;
+        let begin = copy_begin(alloc, &self.begin)?;
         Ok(Parts {
             form: self.form,
             stop: self.stop,
@@ -245,6 +275,7 @@ impl Parts {
             links,
             inputs,
             outputs,
+            begin,
         })
     }
 
@@ -268,6 +299,17 @@ impl Parts {
             && same_links(&self.links, &other.links)
             && same_inputs(&self.inputs, &other.inputs)
             && same_numbers(&self.outputs, &other.outputs)
+            && same_begin(&self.begin, &other.begin)
+    }
+}
+
+/// Whether programs of this form may go on from others.
+fn goes_on(form: Form) -> bool
+    ensures { result ≡ goes_on form }
+{
+    match form {
+        Form::One | Form::Two | Form::Three => false,
+        Form::Four => true,
     }
 }
 

@@ -1,13 +1,16 @@
 //! The state of a program between two steps.
-ghost use Rattle.std.specs.Prelude.{◌≡◌, ◌≤◌, ◌+◌, ◌↔◌, ℕ, pos, length, map, IfOk, IsTrue};
+ghost use Rattle.std.specs.Prelude.{◌≡◌, ◌≤◌, ◌+◌, ◌↔◌, ℕ, pos, length, map, Some, None, IfOk, IsTrue, if◌then◌else◌};
+ghost use Rattle.warp_step.specs.Events.{is_in_time};
 ghost use Rattle.warp_tag.specs.Limits.{longest_delay, widest, most_pending, most_variables};
-ghost use Rattle.warp_step.specs.Program.{top_of};
+ghost use Rattle.warp_step.specs.Program.{starts_of, top_of};
 ghost use Rattle.warp_step.specs.Snapshot.{AreInOrder, IsStateOf, entered, landed, least_pending, start_state};
-ghost use Rattle.warp_step.specs.Snapshot.{with_loss, with_timers};
+ghost use Rattle.warp_step.specs.Snapshot.{start_in, with_loss, with_pending, with_timers};
+ghost use Rattle.warp_step.specs.View.{begun_of};
 
+use crate::begin::Begin;
 use crate::entries::Entries;
 use crate::parts::Variable;
-use crate::pending::{Waiting, enter_entry, enter_last};
+use crate::pending::{Waiting, enter_entry, enter_last, same_entries};
 use crate::program::Program;
 use std::alloc::Global;
 use std::marker::Model;
@@ -38,15 +41,29 @@ impl Model for State {
 
 impl State {
     /// The state that a program starts in: start values, and pending are startup, if some reaction is triggered by it,
-    /// and each timer whose offset is not past the stop.
+    /// and each timer whose offset is not past the stop. Of a program that goes on from another one, what was pending
+    /// and lost there.
     pub fn start(alloc: Global, program: &Program) -> Result<State, OutOfMemory>
         ensures state { IfOk result (λ s. s ≡ start_state program.now) }
         ensures of_program { IfOk result (IsStateOf program.now) }
     {
         program.valid();
         let values = start_values(alloc, program.variables())?;
+        let vars = Vars::from_vec(values);
+        match program.begin() {
+            None => Ok(State::fresh(program, vars)),
+            Some(begin) => Ok(State::going_on(program, begin, vars)),
+        }
+    }
+
+    /// The state with these values, the start values, in which a program starts that goes on from no other.
+    fn fresh(program: &Program, vars: Vars) -> State
+        requires { vars ≡ starts_of program.now }
+        ensures { result ≡ start_in program.now None }
+    {
+        program.valid();
         let mut state = State {
-            vars: Vars::from_vec(values),
+            vars,
             pending: Entries::new(),
             lost: 0,
         };
@@ -54,7 +71,41 @@ impl State {
             state.enter(Tag::beginning_of(0), Target::Startup, 0);
         }
         state.enter_timers(program);
-        Ok(state)
+        state
+    }
+
+    /// The state with these values, the start values, in which a program starts that goes on from another one.
+    fn going_on(program: &Program, begin: &Begin, vars: Vars) -> State
+        requires { vars ≡ starts_of program.now }
+        ensures { result ≡ start_in program.now (Some (begun_of begin.now)) }
+    {
+        program.valid();
+        let mut state = State {
+            vars,
+            pending: Entries::new(),
+            lost: begin.lost,
+        };
+        state.enter_pending(program, &begin.pending);
+        state
+    }
+
+    /// Enters these entries, each that is at a tag which the program executes.
+    fn enter_pending(&mut self, program: &Program, entries: &[Waiting])
+        ensures { self.new ≡ with_pending program.now entries.now self.old }
+    {
+        for entry in entries {
+            self.enter_timely(program, *entry);
+        }
+    }
+
+    /// Enters an entry, if the program executes its tag.
+    fn enter_timely(&mut self, program: &Program, entry: Waiting)
+        ensures { self.new ≡ (if is_in_time program.now entry.tag
+            then entered entry.tag entry.target entry.value self.old else self.old) }
+    {
+        if program.executes(entry.tag) {
+            self.enter(entry.tag, entry.target, entry.value);
+        }
     }
 
     /// Makes each timer whose offset is not past the stop pending at its offset.
@@ -201,13 +252,6 @@ impl State {
 
 /// Whether these are the same values.
 fn same_values(a: &[i64], b: &[i64]) -> bool
-    ensures { IsTrue result ↔ (a.now ≡ b.now) }
-{
-    a == b
-}
-
-/// Whether these are the same entries.
-fn same_entries(a: &[Waiting], b: &[Waiting]) -> bool
     ensures { IsTrue result ↔ (a.now ≡ b.now) }
 {
     a == b

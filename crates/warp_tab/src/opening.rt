@@ -5,7 +5,7 @@ ghost use Rattle.warp_prog.specs.Load.{IsLoaded, IsRefused};
 
 use std::alloc::Global;
 use warp_line::Timeline;
-use warp_prog::{LoadError, load, load_named};
+use warp_prog::{LoadError, load_begun, load_named};
 use warp_replica::{Local, Replica};
 use warp_step::Program;
 
@@ -13,13 +13,13 @@ use warp_step::Program;
 ///
 /// # Errors
 ///
-/// Those of `load`, of the same bytes; and `Memory` where there is none for the replica.
+/// Those of `load_begun`, of the same bytes; and `Memory` where there is none for the replica.
 pub fn open<T: Timeline>(alloc: Global, text: &[u8]) -> Result<Local<T>, LoadError>
     ensures program { IfOk result (λ tab. IsLoaded text.now tab.program) }
     ensures records { IfOk result (λ tab. tab.records ≡ []) }
     ensures err { IfErr result (IsRefused text.now) }
 {
-    let program = load(alloc, text)?;
+    let program = load_begun(alloc, text)?;
     begin(alloc, program)
 }
 
@@ -39,7 +39,7 @@ fn begin<T: Timeline>(alloc: Global, program: Program) -> Result<Local<T>, LoadE
 ///
 /// # Errors
 ///
-/// Those of `load`, of the same bytes.
+/// Those of `load_begun`, of the same bytes.
 pub fn fingerprint(alloc: Global, text: &[u8]) -> Result<String, LoadError>
     ensures digits { IfOk result (λ digits. (canonical : List ℕ) × IsCanonical text.now canonical
         × (string_bytes digits ≡ fingerprint_of canonical)) }

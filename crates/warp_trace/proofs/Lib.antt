@@ -3,3 +3,4 @@ pub mod TraceText
 pub mod TraceItems
 pub mod LogTraces
 pub mod TraceRows
+pub mod CutStates

@@ -16,7 +16,7 @@ use Rattle.warp_table.specs.Names.{IsLive}
 use Rattle.warp_table.specs.Records.{Records}
 use Rattle.warp_trace.specs.Labels.{Names, quoted, target_name, variable_name}
 use Rattle.warp_trace.specs.declared.item.Item.{Item}
-use Rattle.warp_trace.specs.declared.item.Item.TheVariants.{Came, Due, Changed, Put}
+use Rattle.warp_trace.specs.declared.item.Item.TheVariants.{Came, Due, Changed, Put, Waits}
 
 -- ---- what a row tells
 
@@ -52,6 +52,10 @@ changed before after = flat_map (changed_at before after) (numbers 0 after)
 abbrev pub put : List Out → List Item
 put outs = map (λ out. Put out.port out.value) outs
 
+-- what is pending in a state, each entry with its tag
+abbrev pub pending_items : Snapshot → List Item
+pending_items s = map (λ w. Waits w.tag w.target w.value) s.pending
+
 -- ---- how it is written
 
 -- an item: an object of its parts, or a name and a value
@@ -61,6 +65,9 @@ item_text names (Came origin input value) =
 item_text names (Due target value) = codes "{\"target\":" ++ target_name names target ++ codes ",\"value\":" ++ signed_decimal value ++ codes "}"
 item_text names (Changed variable value) = variable_name names variable ++ codes ":" ++ signed_decimal value
 item_text names (Put output value) = quoted names.outputs output ++ codes ":" ++ signed_decimal value
+item_text names (Waits tag target value) =
+    codes "[" ++ decimal tag.time ++ codes "," ++ decimal tag.microstep ++ codes "," ++ target_name names target ++ codes "," ++ signed_decimal value
+    ++ codes "]"
 
 -- items, with a comma before each but the first
 abbrev pub listed : Names → List Item → List ℕ

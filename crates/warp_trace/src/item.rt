@@ -5,7 +5,7 @@ ghost use Rattle.std.specs.Option.{option_map_or};
 ghost use Rattle.std.specs.Ordering.{int_eq};
 ghost use Rattle.warp_tag.specs.Limits.{most_variables, widest};
 ghost use Rattle.warp_tag.specs.Table.{live};
-ghost use Rattle.warp_trace.specs.Trace.{came, came_of, changed, changed_at, changed_of, due, put};
+ghost use Rattle.warp_trace.specs.Trace.{came, came_of, changed, changed_at, changed_of, due, pending_items, put};
 ghost use Rattle.warp_trace.specs.inner.Tracing.{changed_from};
 
 use warp_body::Target;
@@ -19,13 +19,32 @@ const RUN: usize = 8;
 #[derive(Clone, Copy)]
 pub(crate) enum Item {
     /// An event came from this origin for this program input.
-    Came { origin: u32, input: u32, value: i64 },
+    Came {
+        origin: u32,
+        input: u32,
+        value: i64,
+    },
     /// What was pending to this target was due.
-    Due { target: Target, value: i64 },
+    Due {
+        target: Target,
+        value: i64,
+    },
     /// The variable with this number has another value now.
-    Changed { variable: u32, value: i64 },
+    Changed {
+        variable: u32,
+        value: i64,
+    },
     /// The program output with this number was put.
-    Put { output: u32, value: i64 },
+    Put {
+        output: u32,
+        value: i64,
+    },
+    /// This is pending at a tag.
+    Waits {
+        tag: Tag,
+        target: Target,
+        value: i64,
+    },
 }
 
 /// Adds the live event of a name, where it has one for this input.
@@ -229,6 +248,21 @@ pub(crate) fn gather_changed(
     // A state has few variables.
     state.valid();
     gather_others(before, state.vars(), items)
+}
+
+/// Gathers what is pending.
+pub(crate) fn gather_pending(state: &State, items: &mut Vec<Item>) -> Result<(), OutOfMemory>
+    ensures { OnOk result (items.new.items ≡ pending_items state.now) }
+{
+    items.clear();
+    for entry in state.pending() {
+        items.push(Item::Waits {
+            tag: entry.tag,
+            target: entry.target,
+            value: entry.value,
+        })?;
+    }
+    Ok(())
 }
 
 /// Gathers the outputs of a step.

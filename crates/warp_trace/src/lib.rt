@@ -4,6 +4,7 @@
 //! `Printer`. `StepNotes` are a meter that tells each step as it is executed. `Labels` give names to numbers.
 #![tactic(auto)]
 
+mod cut_state;
 mod item;
 mod labels;
 mod printer;
@@ -12,6 +13,7 @@ mod row_text;
 mod step_notes;
 mod trace;
 
+pub use cut_state::{cut_state, state_at};
 pub use labels::Labels;
 pub use printer::{Printer, TraceFault, Unprinted, print_full};
 pub use recorder::Recorder;

@@ -7,9 +7,12 @@ ghost use Rattle.warp_record.specs.declared.record.Record.{Record};
 ghost use Rattle.warp_replica.specs.Desk.{LocalGives, LocalState};
 ghost use Rattle.warp_replica.specs.Gives.{Takes, told};
 ghost use Rattle.warp_replica.specs.Replica.{AreAllowed};
+ghost use Rattle.warp_table.specs.Announced.{IsHorizon};
 ghost use Rattle.warp_table.specs.Check.{refusal_of};
+ghost use Rattle.warp_table.specs.Closed.{AreCountsBefore, AreJointCountsBefore};
 ghost use Rattle.warp_table.specs.Log.{IsAt};
 ghost use Rattle.warp_table.specs.Names.{origin_of};
+ghost use Rattle.warp_table.specs.Records.{set_of};
 
 use std::alloc::Global;
 use std::marker::Model;
@@ -17,8 +20,8 @@ use warp_exchange::Desk;
 use warp_record::{Line, Record, Refusal, Reply};
 use warp_replica::Took;
 use warp_step::Program;
-use warp_table::Table;
-use warp_tag::Form;
+use warp_table::{CountsBefore, Table};
+use warp_tag::{Form, OutOfMemory, Tag};
 
 /// A program and the records that it took, for whoever wants them and no answers. Contracts see both, as of a replica.
 #[derive(Drop)]
@@ -78,11 +81,37 @@ impl Recorder {
     }
 
     /// Its records, against none of which the program has a reason.
-    pub(crate) fn table(&self) -> &Table
+    pub fn table(&self) -> &Table
         ensures table { result.now ≡ self.now.records }
         ensures allowed { AreAllowed self.now.program self.now.records }
     {
         &self.table
+    }
+
+    /// Up to which tag the announcements among its records are reached.
+    pub fn horizon(&self) -> Tag
+        ensures { IsHorizon self.now.program (set_of self.now.records) result }
+    {
+        self.table.horizon(&self.program)
+    }
+
+    /// How many names of an origin are before a tag, of those that have an event and of those that have a withdrawal. It
+    /// stays as it is, also on an `Err`.
+    pub fn counts_before(&mut self, origin: u32, tag: Tag) -> Result<CountsBefore, OutOfMemory>
+        ensures same { self.new ≡ self.old }
+        ensures counts { IfOk result (λ counts.
+            AreCountsBefore (set_of self.old.records) origin tag counts.events counts.withdrawn) }
+    {
+        self.table.counts_before(origin, tag)
+    }
+
+    /// How many names of all origins are before a tag so. It stays as it is, also on an `Err`.
+    pub fn joint_counts_before(&mut self, tag: Tag) -> Result<CountsBefore, OutOfMemory>
+        ensures same { self.new ≡ self.old }
+        ensures counts { IfOk result (λ counts.
+            AreJointCountsBefore (set_of self.old.records) tag counts.events counts.withdrawn) }
+    {
+        self.table.joint_counts_before(tag)
     }
 
     /// Takes a record. `Err` says the first reason against it: one of the program's, a full log, or no memory.

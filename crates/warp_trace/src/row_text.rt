@@ -119,6 +119,41 @@ fn append_due(
     append_end(text, value)
 }
 
+/// Appends what is pending at a tag.
+fn append_waiting(
+    text: &mut Vec<u8>,
+    labels: &Labels,
+    tag: Tag,
+    target: Target,
+    value: i64,
+) -> Result<(), OutOfMemory>
+    ensures { OnOk result
+        (text.new.items ≡ text.old.items ++ item_text labels.now (Item.Waits tag target value)) }
+{
+    text.push(b'[')?;
+    append_number(text, tag.time())?;
+    text.push(b',')?;
+    append_number(text, u64::from(tag.micro()))?;
+    text.push(b',')?;
+    append_waiting_end(text, labels, target, value)
+}
+
+/// Appends the name of a target and a value, and the end of a list.
+fn append_waiting_end(
+    text: &mut Vec<u8>,
+    labels: &Labels,
+    target: Target,
+    value: i64,
+) -> Result<(), OutOfMemory>
+    ensures { OnOk result (text.new.items ≡ text.old.items
+        ++ (target_name labels.now target ++ codes "," ++ signed_decimal value ++ codes "]")) }
+{
+    append_target(text, labels, target)?;
+    text.push(b',')?;
+    append_value(text, value)?;
+    text.extend_from_slice(b"]")
+}
+
 /// Appends a name and a value.
 pub(crate) fn append_pair(
     text: &mut Vec<u8>,
@@ -199,6 +234,7 @@ fn append_item(text: &mut Vec<u8>, labels: &Labels, item: &Item) -> Result<(), O
         Item::Due { target, value } => append_due(text, labels, target, value),
         Item::Changed { variable, value } => append_changed(text, labels, variable, value),
         Item::Put { output, value } => append_pair(text, &labels.outputs, output, value),
+        Item::Waits { tag, target, value } => append_waiting(text, labels, tag, target, value),
     }
 }
 
@@ -263,7 +299,7 @@ pub(crate) fn append_pending(text: &mut Vec<u8>, state: &State) -> Result<(), Ou
 }
 
 /// Appends whether the row is released.
-fn append_released(text: &mut Vec<u8>, released: bool) -> Result<(), OutOfMemory>
+pub(crate) fn append_released(text: &mut Vec<u8>, released: bool) -> Result<(), OutOfMemory>
     ensures { OnOk result (text.new.items ≡ text.old.items ++ released_part released) }
 {
     if released {

@@ -10,7 +10,7 @@ use Rattle.clap.specs.declared.builder.action.ArgAction.TheVariants.{Append, Set
 use Rattle.clap.specs.declared.builder.value_parser.ValueParser.TheVariants.{Unsigned}
 use Rattle.warp_words.specs.declared.job.CheckOptions.{CheckOptions}
 use Rattle.warp_words.specs.declared.job.Job.{Job}
-use Rattle.warp_words.specs.declared.job.Job.TheVariants.{Run, Play, Serve, Check, Trace, Host, Journal}
+use Rattle.warp_words.specs.declared.job.Job.TheVariants.{Run, Play, Serve, Check, Trace, Host, Journal, State, Continue}
 
 -- a place for one word, which has to be there
 abbrev pub wanted_word : Text → Rule
@@ -118,6 +118,23 @@ host_command =
 abbrev pub journal_command : App
 journal_command = with_rule (with_rule (new_app (codes "journal")) (wanted_word (codes "ACTION"))) (wanted_word (codes "FILE"))
 
+-- the latest time at which a run is cut, and the last stop
+abbrev pub last_cut : ℕ
+last_cut = 15624999
+
+-- `state` with PROGRAM and `--at`
+abbrev pub state_command : App
+state_command = with_rule (with_rule (new_app (codes "state")) (wanted_word (codes "PROGRAM"))) (wanted_number (codes "at") last_cut)
+
+-- `continue` with OLD, NEW, JOURNAL and NEXT, `--at`, `--now`, `--rename`, `--startup` and `--stop`
+abbrev pub continue_command : App
+continue_command =
+    with_rule (with_rule (with_rule (with_rule (with_rule
+    (with_rule (with_rule (with_rule (with_rule (new_app (codes "continue"))
+    (wanted_word (codes "OLD"))) (wanted_word (codes "NEW"))) (wanted_word (codes "JOURNAL"))) (wanted_word (codes "NEXT")))
+    (further_number (codes "at") last_cut)) (flag (codes "now"))) (further_words (codes "rename"))) (flag (codes "startup")))
+    (further_number (codes "stop") last_cut)
+
 -- `warpd` wants a subcommand, answers with help where no word comes, and has a version
 abbrev pub top_command : App
 top_command = on_top
@@ -127,8 +144,10 @@ top_command = on_top
 -- `warpd` with its subcommands
 abbrev pub warpd_command : App
 warpd_command =
-    with_subcommand (with_subcommand (with_subcommand (with_subcommand (with_subcommand (with_subcommand (with_subcommand top_command
-    run_command.top) play_command.top) serve_command.top) check_command.top) trace_command.top) host_command.top) journal_command.top
+    with_subcommand (with_subcommand
+    (with_subcommand (with_subcommand (with_subcommand (with_subcommand (with_subcommand (with_subcommand (with_subcommand top_command
+    run_command.top) play_command.top) serve_command.top) check_command.top) trace_command.top) host_command.top) journal_command.top)
+    state_command.top) continue_command.top
 
 -- what a host is asked for: the program of this name, where to listen, how many clients there may be at a time, the file of
 -- tokens, the origins of pages that may connect, the peers, the file of tokens for peers, whether any address may be listened
@@ -157,12 +176,26 @@ pub record HostTask : Type 0 where
   pub tick : Option Text
   pub inputs_a_tick : Option ℕ
 
+-- what going on with a program's run is asked for: the old program and the new one of these names, the file of the old one's
+-- journal, the front of the names of the files that are made, the time of the cut, whether it is made before the horizon is there, the
+-- names that are changed, whether the new program's startup comes, and the new stop
+pub record ContinueTask : Type 0 where
+  pub old : Text
+  pub new : Text
+  pub journal : Text
+  pub next : Text
+  pub at : Option ℕ
+  pub now : Bool
+  pub renames : List Text
+  pub startup : Bool
+  pub stop : Option ℕ
+
 -- what the words may ask for: to run the program of this name; or over the program of the first name to play the schedule of
 -- the second; or to serve the program of this name at a port, for so many sessions, to tell how pulls ended or not, to bear so many
 -- seconds of a peer's silence or any number, and to pull from these peers; or to check the
 -- program of this name, and to tell what these options say; or to print the rows of a run of the program of this
 -- name, or its steps as they were executed; or to host a program; or to do what the first word says with the journal in the
--- file of the second
+-- file of the second; or to print the state of a run of the program of this name at a time; or to make what goes on with a run
 pub data Task : Type 0 where
   RunProgram : Text → Task
   PlaySchedule : Text → Text → Task
@@ -171,6 +204,8 @@ pub data Task : Type 0 where
   TraceProgram : Text → Bool → Task
   HostProgram : HostTask → Task
   SeeJournal : Text → Text → Task
+  SeeState : Text → ℕ → Task
+  ContinueRun : ContinueTask → Task
 
 -- what `run` asks for, of what was found for it: the word in the place of PROGRAM
 abbrev pub run_task : List Row → Option Task
@@ -255,6 +290,26 @@ abbrev pub journal_task : List Row → Option Task
 journal_task found =
     option_and_then (λ action. option_map (SeeJournal action) (first_of (codes "FILE") found)) (first_of (codes "ACTION") found)
 
+-- what `state` asks for, of what was found for it: the word in the place of PROGRAM, and the number
+abbrev pub state_task : List Row → Option Task
+state_task found =
+    option_and_then (λ program. option_map (SeeState program) (number_found (codes "at") last_cut found)) (first_of (codes "PROGRAM") found)
+
+-- what `continue` asks for, of what was found for it: the words in the places of OLD, NEW, JOURNAL and NEXT, and what its options have
+abbrev pub continue_task : List Row → Option Task
+continue_task found =
+    option_and_then (λ old. option_and_then (λ new. option_and_then (λ journal. option_map (λ next. ContinueRun (record {
+      old = old;
+      new = new;
+      journal = journal;
+      next = next;
+      at = number_found (codes "at") last_cut found;
+      now = is_set (codes "now") found;
+      renames = all_of_or_none (codes "rename") found;
+      startup = is_set (codes "startup") found;
+      stop = number_found (codes "stop") last_cut found;
+    })) (first_of (codes "NEXT") found)) (first_of (codes "JOURNAL") found)) (first_of (codes "NEW") found)) (first_of (codes "OLD") found)
+
 -- what the subcommand of this name asks for
 abbrev pub task_named : Text → List Row → Option Task
 task_named name found =
@@ -264,7 +319,9 @@ task_named name found =
     else (if bytes_eq name (codes "check") then check_task found
     else (if bytes_eq name (codes "trace") then trace_task found
     else (if bytes_eq name (codes "host") then host_task found
-    else (if bytes_eq name (codes "journal") then journal_task found else None))))))
+    else (if bytes_eq name (codes "journal") then journal_task found
+    else (if bytes_eq name (codes "state") then state_task found
+    else (if bytes_eq name (codes "continue") then continue_task found else None))))))))
 
 -- what a subcommand asks for, with what was found for it
 abbrev pub task_found : Option (Text × List Row) → Option Task
@@ -304,16 +361,30 @@ task_of (Host job) = HostProgram (record {
   inputs_a_tick = job.inputs_a_tick;
 })
 task_of (Journal action file) = SeeJournal action.now file.now
+task_of (State program at) = SeeState program.now at
+task_of (Continue job) = ContinueRun (record {
+  old = job.old.now;
+  new = job.new.now;
+  journal = job.journal.now;
+  next = job.next.now;
+  at = job.at;
+  now = job.now;
+  renames = map (λ word. word.now) job.renames.items;
+  startup = job.startup;
+  stop = job.stop;
+})
 
 -- a number that was found, if one was, is from 1 to `most`
 abbrev pub IsUpTo : ℕ → Option ℕ → Type 0
 IsUpTo most found = IfSome found (λ n. (1 ≤ n) × (n ≤ most))
 
--- the port, the number of sessions, the seconds, the number of clients, and those of a host's clock are in their ranges
+-- the port, the number of sessions, the seconds, the number of clients, those of a host's clock, and times are in their ranges
 abbrev pub IsInRange : Task → Type 0
 IsInRange (ServeProgram program port sessions tells_pulls peer_timeout peers) =
     (1 ≤ port) × (port ≤ last_listening_port) × (1 ≤ sessions) × (sessions ≤ most_sessions)
     × IfSome peer_timeout (λ seconds. (1 ≤ seconds) × (seconds ≤ most_seconds))
 IsInRange (HostProgram task) =
     IsUpTo most_clients task.clients × IsUpTo most_hertz task.clock × IsUpTo most_grace task.grace × IsUpTo most_inputs task.inputs_a_tick
+IsInRange (SeeState program at) = (1 ≤ at) × (at ≤ last_cut)
+IsInRange (ContinueRun task) = IsUpTo last_cut task.at × IsUpTo last_cut task.stop
 IsInRange task = Unit {0}

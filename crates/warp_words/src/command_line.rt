@@ -7,12 +7,14 @@ ghost use Rattle.warp_words.specs.Parts.{app_for, rule_for, with_made, with_part
 ghost use Rattle.warp_words.specs.declared.command_line.Subcommand.{Subcommand};
 ghost use Rattle.warp_words.specs.Words.{play_task, run_task, task_found, task_in, task_of};
 ghost use Rattle.warp_words.specs.Words.{IsInRange, all_of_or_none, number_found, number_up_to};
-ghost use Rattle.warp_words.specs.Words.{check_options, check_task, host_task, is_set, journal_task, serve_task, trace_task};
+ghost use Rattle.warp_words.specs.Words.{check_options, check_task, continue_task, host_task, is_set, journal_task, serve_task};
+ghost use Rattle.warp_words.specs.Words.{state_task, trace_task};
 ghost use Rattle.warp_words.specs.Words.{top_command, warpd_command};
 
-use crate::job::{CheckOptions, HostJob, Job};
+use crate::job::{CheckOptions, ContinueJob, HostJob, Job};
 use crate::{
-    check_help, host_help, journal_help, play_help, run_help, serve_help, top_help, trace_help,
+    check_help, continue_help, host_help, journal_help, play_help, run_help, serve_help,
+    state_help, top_help, trace_help,
 };
 use clap::builder::ValueParser;
 use clap::{Arg, ArgAction, ArgMatches, Command, Error};
@@ -92,6 +94,24 @@ const ACTION: &str = "ACTION";
 
 const FILE: &str = "FILE";
 
+const AT: &str = "at";
+
+const OLD: &str = "OLD";
+
+const NEW: &str = "NEW";
+
+const JOURNAL_PLACE: &str = "JOURNAL";
+
+const NEXT: &str = "NEXT";
+
+const NOW: &str = "now";
+
+const RENAME: &str = "rename";
+
+const STARTUP: &str = "startup";
+
+const STOP: &str = "stop";
+
 /// The highest port to listen on.
 const LAST_LISTENING_PORT: u64 = 65_535;
 
@@ -112,6 +132,9 @@ const MOST_GRACE: u64 = 60_000;
 
 /// The most inputs of an origin that a tick takes.
 const MOST_INPUTS: u64 = 256;
+
+/// The latest time at which a run is cut, and the last stop.
+const LAST_CUT: u64 = 15_624_999;
 
 /// What a part of a subcommand is.
 enum PartKind {
@@ -155,6 +178,8 @@ enum Topic {
     Trace,
     Host,
     Journal,
+    State,
+    Continue,
 }
 
 /// A subcommand: its name, the topic of its help, and its parts in their order.
@@ -411,7 +436,83 @@ const JOURNAL: Subcommand = Subcommand {
     ],
 };
 
-const SUBCOMMANDS: &[Subcommand] = &[RUN, PLAY, SERVE, CHECK, TRACE, HOST, JOURNAL];
+const STATE: Subcommand = Subcommand {
+    name: "state",
+    topic: Topic::State,
+    parts: &[
+        PROGRAM_PART,
+        Part {
+            name: AT,
+            help: state_help::AT_HELP,
+            kind: PartKind::Number {
+                value: "T",
+                most: LAST_CUT,
+            },
+        },
+    ],
+};
+
+const CONTINUE: Subcommand = Subcommand {
+    name: "continue",
+    topic: Topic::Continue,
+    parts: &[
+        Part {
+            name: OLD,
+            help: continue_help::OLD_HELP,
+            kind: PartKind::Word,
+        },
+        Part {
+            name: NEW,
+            help: continue_help::NEW_HELP,
+            kind: PartKind::Word,
+        },
+        Part {
+            name: JOURNAL_PLACE,
+            help: continue_help::JOURNAL_HELP,
+            kind: PartKind::Word,
+        },
+        Part {
+            name: NEXT,
+            help: continue_help::NEXT_HELP,
+            kind: PartKind::Word,
+        },
+        Part {
+            name: AT,
+            help: continue_help::AT_HELP,
+            kind: PartKind::FurtherNumber {
+                value: "T",
+                most: LAST_CUT,
+            },
+        },
+        Part {
+            name: NOW,
+            help: continue_help::NOW_HELP,
+            kind: PartKind::Flag,
+        },
+        Part {
+            name: RENAME,
+            help: continue_help::RENAME_HELP,
+            kind: PartKind::FurtherWords { value: "A=B" },
+        },
+        Part {
+            name: STARTUP,
+            help: continue_help::STARTUP_HELP,
+            kind: PartKind::Flag,
+        },
+        Part {
+            name: STOP,
+            help: continue_help::STOP_HELP,
+            kind: PartKind::FurtherNumber {
+                value: "N",
+                most: LAST_CUT,
+            },
+        },
+    ],
+};
+
+const SUBCOMMANDS: &[Subcommand] = &[
+    RUN, PLAY, SERVE, CHECK, TRACE, HOST, JOURNAL, STATE, CONTINUE,
+];
 
 /// Reads the words of the command line, of which the first is the program's own name.
 /// An error is a mistake in the words, a request for help or the version, or want of memory; its text is for the user.
@@ -462,6 +563,12 @@ fn job_asked<'a>(alloc: Global, matches: &ArgMatches<'a>) -> Result<Option<Job<'
     }
     if let Some(found) = matches.subcommand_matches("journal") {
         return Ok(journal_job(found));
+    }
+    if let Some(found) = matches.subcommand_matches("state") {
+        return Ok(state_job(found));
+    }
+    if let Some(found) = matches.subcommand_matches("continue") {
+        return continue_job(alloc, found);
     }
     Ok(None)
 }
@@ -525,6 +632,45 @@ fn journal_job<'a>(found: &ArgMatches<'a>) -> Option<Job<'a>>
     let action = text(found, ACTION)?;
     let file = text(found, FILE)?;
     Some(Job::Journal { action, file })
+}
+
+/// What `state` asks for.
+fn state_job<'a>(found: &ArgMatches<'a>) -> Option<Job<'a>>
+    ensures { option_map task_of result ≡ state_task (rows_of (found_of found.now)) }
+{
+    let program = text(found, PROGRAM)?;
+    let at = number(found, AT, LAST_CUT)?;
+    Some(Job::State { program, at })
+}
+
+/// What `continue` asks for.
+fn continue_job<'a>(alloc: Global, found: &ArgMatches<'a>) -> Result<Option<Job<'a>>, AllocError>
+    ensures { IfOk result (λ job. option_map task_of job ≡ continue_task (rows_of (found_of found.now))) }
+{
+    let Some(old) = text(found, OLD) else {
+        return Ok(None);
+    };
+    let Some(new) = text(found, NEW) else {
+        return Ok(None);
+    };
+    let Some(journal) = text(found, JOURNAL_PLACE) else {
+        return Ok(None);
+    };
+    let Some(next) = text(found, NEXT) else {
+        return Ok(None);
+    };
+    let renames = texts(alloc, found, RENAME)?;
+    Ok(Some(Job::Continue(ContinueJob {
+        old,
+        new,
+        journal,
+        next,
+        at: number(found, AT, LAST_CUT),
+        now: is_set(found, NOW),
+        renames,
+        startup: is_set(found, STARTUP),
+        stop: number(found, STOP, LAST_CUT),
+    })))
 }
 
 /// Whether the option with this id is there.
@@ -708,6 +854,8 @@ fn help_on(topic: &Topic) -> Help {
         Topic::Trace => trace_help::help(),
         Topic::Host => host_help::help(),
         Topic::Journal => journal_help::help(),
+        Topic::State => state_help::help(),
+        Topic::Continue => continue_help::help(),
     }
 }
 

@@ -53,6 +53,38 @@ pub enum Job<'a> {
         /// The word that names the file of the journal.
         file: &'a str,
     },
+    /// Print the state of the one run over the lines of standard input, behind all rows before a time.
+    State {
+        /// The word that names the program to run.
+        program: &'a str,
+        /// The time, 1 to 15,624,999.
+        at: u64,
+    },
+    /// Make a program and a journal that go on with the run of a program's journal.
+    Continue(ContinueJob<'a>),
+}
+
+/// What going on with a program's run is asked for.
+#[derive(Debug, Drop, PartialEq, Eq)]
+pub struct ContinueJob<'a> {
+    /// The word that names the program that was run.
+    pub old: &'a str,
+    /// The word that names the program that is to go on.
+    pub new: &'a str,
+    /// The word that names the file of the journal.
+    pub journal: &'a str,
+    /// What the names of the files that are made begin with.
+    pub next: &'a str,
+    /// The time of the cut, 1 to 15,624,999.
+    pub at: Option<u64>,
+    /// Whether it is cut though records may come before that time.
+    pub now: bool,
+    /// The names that are changed, each as `REACTOR.NAME=REACTOR.NAME`, in their order.
+    pub renames: Vec<&'a str>,
+    /// Whether the startup of the new program comes.
+    pub startup: bool,
+    /// The new stop, 1 to 15,624,999.
+    pub stop: Option<u64>,
 }
 
 /// What a host is asked for.

@@ -3,14 +3,16 @@
 
 mod check_help;
 mod command_line;
+mod continue_help;
 mod host_help;
 mod job;
 mod journal_help;
 mod play_help;
 mod run_help;
 mod serve_help;
+mod state_help;
 mod top_help;
 mod trace_help;
 
 pub use command_line::words;
-pub use job::{CheckOptions, HostJob, Job};
+pub use job::{CheckOptions, ContinueJob, HostJob, Job};

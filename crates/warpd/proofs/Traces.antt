@@ -13,9 +13,10 @@ use Rattle.warp_session.specs.Session.{FailsSo, GivesAll, GivesPiece, Session, T
 use Rattle.warp_session.specs.declared.desk_session.SessionEnd.{SessionEnd}
 use Rattle.warp_session.specs.declared.desk_session.SessionEnd.TheVariants.{End, ReadFault, WriteFault, TooManyReads, NoMemory}
 use Rattle.warp_trace.specs.Labels.{Names}
+use Rattle.warp_trace.specs.CutState.{IsCutState}
 use Rattle.warp_trace.specs.Trace.{IsTrace}
 use Rattle.warpd.specs.Gathered.{Gathered, Gathers, lacks_memory}
-use Rattle.warpd.specs.Outcome.{GivesAmply, IsTraceOf, PrintsRows, Seen, StopsReading, TracesOver, WritesNothing, end_outcome}
+use Rattle.warpd.specs.Outcome.{GivesAmply, IsPrinted, IsStateOf, IsTraceOf, PrintsRows, Seen, StatesOver, StopsReading, TracesOver, WritesNothing, end_outcome}
 use Rattle.warpd.specs.declared.outcome.Outcome.{Outcome}
 use Rattle.warpd.specs.declared.outcome.Outcome.TheVariants.{Memory}
 
@@ -115,3 +116,24 @@ prints_at_end names P g g' before read after outcome is empty t nothing reads (i
     (read, nothing, inr (inr (inr (want, reads)), same))
 prints_at_end names P g g' before read after outcome is empty t nothing reads (inr (none, p)) =
     (read, nothing, inl (p.0, traced_log names P g g' before.left None None p.0 is empty none t p.1, reads, p.2))
+
+-- the same of the state of the run where it is cut
+state_of_log : (names : Names) (P : Program) (time : ℕ) (g g' : Gathered) (left written written' : Option (List ℕ)) (text : List ℕ)
+    → g.taken.program ≡ P → g.taken.records ≡ [] → g'.lacked ≡ false → Transcribes g.taken.program.form Gathers g left written written' g'
+    → IsCutState names g'.taken.program (set_of g'.taken.records) time text → IsStateOf names P time left text
+state_of_log names P time g g' None written written' text is empty none t state = tt
+state_of_log names P time g g' (Some input) written written' text is empty none t state =
+    let left = session_amply P g g' input t.0 is empty none t.1 in
+    (g'.taken.records, (t.0, left.1), subst (λ (Q : Program). IsCutState names Q (set_of g'.taken.records) time text) left.0 state)
+
+pub states_at_end : (names : Names) (P : Program) (time : ℕ) (g g' : Gathered) (before read after : Seen) (outcome : Outcome)
+    → g.taken.program ≡ P → g.taken.records ≡ [] → Transcribes g.taken.program.form Gathers g before.left None None g'
+    → WritesNothing before read → read.failed_reads ≡ before.failed_reads
+    → (((outcome ≡ Memory) × (after ≡ read))
+    ⊎ ((g'.lacked ≡ false) × ((text : List ℕ) × IsCutState names g'.taken.program (set_of g'.taken.records) time text
+    × IsPrinted text read after outcome)))
+    → StatesOver P names time before after outcome
+states_at_end names P time g g' before read after outcome is empty t nothing reads (inl (want, same)) =
+    (read, nothing, inr (inr (inr (want, reads)), same))
+states_at_end names P time g g' before read after outcome is empty t nothing reads (inr (none, p)) =
+    (read, nothing, inl (p.0, state_of_log names P time g g' before.left None None p.0 is empty none t p.1, reads, p.2))

@@ -25,6 +25,7 @@ use Rattle.warp_record.specs.declared.reply.Reply.{Reply}
 use Rattle.warp_replica.specs.Gives.{Gives}
 use Rattle.warp_table.specs.Records.{Records, set_of}
 use Rattle.warp_trace.specs.Labels.{Names as TraceNames}
+use Rattle.warp_trace.specs.CutState.{IsCutState}
 use Rattle.warp_trace.specs.Trace.{IsTrace}
 use Rattle.warp_trace.specs.declared.printer.TraceFault.{TraceFault}
 use Rattle.warp_trace.specs.declared.printer.TraceFault.TheVariants as trace_fault
@@ -37,7 +38,7 @@ use Rattle.warp_host.specs.declared.hosting.HostFault.{HostFault}
 use Rattle.warp_host.specs.declared.hosting.HostFault.TheVariants as host_fault
 use Rattle.warp_disk.specs.declared.journal_faults.OpenFault.{OpenFault}
 use Rattle.warp_disk.specs.declared.journal_faults.OpenFault.TheVariants as open_fault
-use Rattle.warp_words.specs.Words.{Task, RunProgram, PlaySchedule, ServeProgram, CheckProgram, TraceProgram, HostProgram, SeeJournal, task_in, warpd_command}
+use Rattle.warp_words.specs.Words.{Task, RunProgram, PlaySchedule, ServeProgram, CheckProgram, TraceProgram, HostProgram, SeeJournal, SeeState, ContinueRun, task_in, warpd_command}
 use Rattle.warp_words.specs.declared.job.CheckOptions.{CheckOptions}
 use Rattle.warp_session.specs.declared.door.ServeFault.{ServeFault}
 use Rattle.warp_session.specs.declared.door.ServeFault.TheVariants as serve_fault
@@ -45,7 +46,7 @@ use Rattle.warp_session.specs.declared.desk_session.SessionEnd.{SessionEnd}
 use Rattle.warp_session.specs.declared.desk_session.SessionEnd.TheVariants.{End, ReadFault, WriteFault, TooManyReads, NoMemory}
 use Rattle.warpd.specs.Gathered.{lacks_memory}
 use Rattle.warpd.specs.declared.outcome.Outcome.{Outcome}
-use Rattle.warpd.specs.declared.outcome.Outcome.TheVariants.{Done, Words, TooManyLanes, NoAddress, NotOpen, TooManyPeers, NoPeer, NoOrigin, Program, Schedule, ShownTokens, BadTokens, NoTokens, NoAction, NoSync, JournalInUse, NoJournal, OtherJournal, DamagedJournal, RefusedJournal, LostJournal, NoSite, LargeSite, NoClock, ClockWithPeers, NoKeep, NoPause, NoTick, NotKept, NoProgram, NoSchedule, Input, Output, Memory, Listen, Accept}
+use Rattle.warpd.specs.declared.outcome.Outcome.TheVariants.{Done, Words, TooManyLanes, NoAddress, NotOpen, TooManyPeers, NoPeer, NoOrigin, Program, Schedule, ShownTokens, BadTokens, NoTokens, NoAction, NoSync, JournalInUse, NoJournal, OtherJournal, DamagedJournal, RefusedJournal, LostJournal, NoSite, LargeSite, NoClock, ClockWithPeers, NoKeep, NoPause, NoTick, NotKept, NoRename, NoCut, OlderProgram, NextIsThere, NoNext, NoProgram, NoSchedule, Input, Output, Memory, Listen, Accept}
 use Rattle.warpd.specs.declared.outcome.TokenFile.{TokenFile}
 use Rattle.warpd.specs.declared.outcome.TokenFile.TheVariants.{Clients, Peers}
 
@@ -80,6 +81,11 @@ status_of NoKeep = 2
 status_of NoPause = 2
 status_of NoTick = 2
 status_of (NotKept origin) = 3
+status_of NoRename = 2
+status_of NoCut = 3
+status_of OlderProgram = 3
+status_of NextIsThere = 3
+status_of NoNext = 4
 status_of NoProgram = 4
 status_of NoSchedule = 4
 status_of Input = 4
@@ -134,6 +140,11 @@ told_line NoKeep = codes "--keep is all or O,O,.. of the program's origins\n"
 told_line NoPause = codes "--pause is stand or jump\n"
 told_line NoTick = codes "--tick is an input of a kept origin\n"
 told_line (NotKept origin) = codes "cannot keep origin " ++ decimal origin ++ codes "\n"
+told_line NoRename = codes "--rename is REACTOR.NAME=REACTOR.NAME, each once\n"
+told_line NoCut = codes "cannot cut there\n"
+told_line OlderProgram = codes "the new program is not of version 4\n"
+told_line NextIsThere = codes "a file of NEXT is there already\n"
+told_line NoNext = codes "cannot write the files of NEXT\n"
 told_line NoProgram = codes "cannot read the program\n"
 told_line NoSchedule = codes "cannot read the schedule\n"
 told_line Input = codes "input failed\n"
@@ -477,6 +488,42 @@ Traces name with_steps before after outcome =
     ((P : ReactorProgram) × (names : TraceNames) × IsNamedWith name P names × TracesAs with_steps P names before after outcome)
     ⊎ (IsNone name outcome × (after ≡ before))
 
+-- of a source that tells its bytes, the text is the state of the program's run behind all rows before a time, with these names, over
+-- the log that its lines leave
+abbrev pub IsStateOf : TraceNames → ReactorProgram → ℕ → Option (List ℕ) → List ℕ → Type 0
+IsStateOf names P time left text =
+    IfSome left (λ input. (log : List Record) × LeavesLog P input log × IsCutState names P (set_of log) time text)
+
+-- Telling the state of the program with these names ends so: all lines were read, and then the state over the log that they leave is
+-- printed; or reading came to no end, or memory was wanting, and nothing is printed.
+abbrev pub StatesOver : ReactorProgram → TraceNames → ℕ → Seen → Seen → Outcome → Type 0
+StatesOver P names time before after outcome =
+    (read : Seen) × WritesNothing before read
+    × (((text : List ℕ) × IsStateOf names P time before.left text × (read.failed_reads ≡ before.failed_reads)
+    × IsPrinted text read after outcome)
+    ⊎ (StopsReading before read outcome × (after ≡ read)))
+
+-- telling the state of the program of this name ends so; or where there is none, nothing is done
+abbrev pub States : List ℕ → ℕ → Seen → Seen → Outcome → Type 0
+States name time before after outcome =
+    ((P : ReactorProgram) × (names : TraceNames) × IsNamedWith name P names × StatesOver P names time before after outcome)
+    ⊎ (IsNone name outcome × (after ≡ before))
+
+-- the run ends so before something goes on with another run: for its words, the files of programs or the journal, the cut, the files
+-- that are to be made, or want of memory
+abbrev pub KeepsFromContinuing : Outcome → Type 0
+KeepsFromContinuing outcome =
+    (outcome ≡ NoRename) ⊎ (outcome ≡ NoCut) ⊎ (outcome ≡ OlderProgram) ⊎ (outcome ≡ NextIsThere) ⊎ (outcome ≡ NoNext)
+    ⊎ (outcome ≡ NoProgram) ⊎ (outcome ≡ Memory)
+    ⊎ ((error : LoadError) × (outcome ≡ refused_outcome error))
+    ⊎ ((fault : OpenFault) × (outcome ≡ open_outcome fault))
+
+-- Going on with another run ends so: it is kept from it, and nothing is printed; or what was done is told, or can't be. What the text
+-- says, and what is in the files, no contract of the program says.
+abbrev pub Continues : Seen → Seen → Outcome → Type 0
+Continues before after outcome =
+    (KeepsFromContinuing outcome × (after ≡ before)) ⊎ ((text : List ℕ) × IsPrinted text before after outcome)
+
 -- The run that is asked for this ends so. What the file of a schedule has is not known from its name.
 abbrev pub Does : Task → Seen → Seen → Outcome → Type 0
 Does (RunProgram program) before after outcome = Runs program before after outcome
@@ -487,6 +534,8 @@ Does (CheckProgram program options) before after outcome = Checks program option
 Does (TraceProgram program with_steps) before after outcome = Traces program with_steps before after outcome
 Does (HostProgram task) before after outcome = Hosts task.program before after outcome
 Does (SeeJournal action file) before after outcome = SeesJournal before after outcome
+Does (SeeState program at) before after outcome = States program at before after outcome
+Does (ContinueRun task) before after outcome = Continues before after outcome
 
 -- the run whose words are these ends so: words with no fault have what they ask for done, and of others the
 -- parser's text is shown; for want of memory nothing is done

@@ -5,7 +5,7 @@ ghost use Rattle.warp_prog.specs.Account.{account_text};
 ghost use Rattle.warp_prog.specs.declared.limits.work.Work.{Work};
 ghost use Rattle.warp_prog.specs.Explain.{Names};
 ghost use Rattle.warp_prog.specs.Load.{IsLoaded, IsRefused};
-ghost use Rattle.warp_prog.specs.Reading.{longest_file};
+ghost use Rattle.warp_prog.specs.Reading.{longest_begun};
 ghost use Rattle.warpd.specs.Outcome.{IsFrontOf, IsNone, IsTold, IsToldOf, account_options, refused_outcome};
 
 use crate::file_bytes::{first_bytes, without_file};
@@ -89,9 +89,9 @@ fn file_account<R: Read + Drop>(
     remark: &mut String,
 ) -> Result<String, Outcome>
     ensures ok { IfOk result (λ text. (bytes : List ℕ)
-        × IsFrontOf (longest_file + 1) (R.remaining reader) bytes × IsToldOf bytes options (string_bytes text)) }
+        × IsFrontOf (longest_begun + 1) (R.remaining reader) bytes × IsToldOf bytes options (string_bytes text)) }
     ensures err { IfErr result (λ outcome. (outcome ≡ Outcome.NoProgram) ⊎ (outcome ≡ Outcome.Memory)
-        ⊎ ((bytes : List ℕ) × IsFrontOf (longest_file + 1) (R.remaining reader) bytes
+        ⊎ ((bytes : List ℕ) × IsFrontOf (longest_begun + 1) (R.remaining reader) bytes
         × ((error : LoadError) × IsRefused bytes error × (outcome ≡ refused_outcome error)))) }
 {
     let bytes = first_bytes(alloc, reader, ENOUGH, Outcome::NoProgram)?;

@@ -1,7 +1,7 @@
 //! The program that a host runs, and what it tells of it.
 ghost use Rattle.std.specs.Prelude.{◌≡◌, ◌⊎◌, ◌+◌, ℕ, IfErr, IfOk, List};
 ghost use Rattle.warp_prog.specs.Load.{IsLoaded, IsRefused};
-ghost use Rattle.warp_prog.specs.Reading.{longest_file};
+ghost use Rattle.warp_prog.specs.Reading.{longest_begun};
 ghost use Rattle.warp_prog.specs.declared.error.LoadError.{LoadError};
 ghost use Rattle.warp_step.specs.Twice.{twice};
 ghost use Rattle.warpd.specs.Outcome.{IsFrontOf, IsNamed, IsNone, refused_outcome};
@@ -99,9 +99,9 @@ fn file_hosted<X: Eprint, R: Read + Drop>(
     reader: R,
 ) -> Result<HostedProgram, Outcome>
     ensures ok { IfOk result
-        (λ h. (bytes : List ℕ) × IsFrontOf (longest_file + 1) (R.remaining reader) bytes × IsLoaded bytes h.program) }
+        (λ h. (bytes : List ℕ) × IsFrontOf (longest_begun + 1) (R.remaining reader) bytes × IsLoaded bytes h.program) }
     ensures err { IfErr result (λ outcome. (outcome ≡ Outcome.NoProgram) ⊎ (outcome ≡ Outcome.Memory)
-        ⊎ ((bytes : List ℕ) × IsFrontOf (longest_file + 1) (R.remaining reader) bytes
+        ⊎ ((bytes : List ℕ) × IsFrontOf (longest_begun + 1) (R.remaining reader) bytes
         × ((error : LoadError) × IsRefused bytes error × (outcome ≡ refused_outcome error)))) }
 {
     let bytes = match first_bytes(alloc, reader, ENOUGH, Outcome::NoProgram) {

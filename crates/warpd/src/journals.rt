@@ -24,7 +24,7 @@ const FRONTS: [&[u8]; 2] = [b"warpd journal 2 ", b"warpd journal 1 "];
 const LONGEST_FIRST: usize = 82;
 
 /// So many bytes of a journal are read at once.
-const PIECE: usize = 65_536;
+pub(crate) const PIECE: usize = 65_536;
 
 /// What is told of a journal.
 #[derive(Drop)]
@@ -154,7 +154,7 @@ fn unbegun(alloc: Global, file: &mut File) -> Result<Option<Account>, FileFault>
 }
 
 /// The form of a journal's program, by the first line.
-fn form_of(first: &[u8]) -> Option<Form> {
+pub(crate) fn form_of(first: &[u8]) -> Option<Form> {
     let rest = behind_form(first)?;
     let fingerprint = rest.get(2..)?;
     if fingerprint.len() != 64 || !are_digits(fingerprint) {
@@ -170,7 +170,7 @@ fn form_of(first: &[u8]) -> Option<Form> {
 }
 
 /// The fault of a reading that ended.
-fn not_read(why: NotRead) -> FileFault {
+pub(crate) fn not_read(why: NotRead) -> FileFault {
     match why {
         NotRead::OtherFirst => FileFault::Open(OpenFault::OtherFirst),
         NotRead::NoMemory => FileFault::Open(OpenFault::NoMemory),
@@ -178,7 +178,7 @@ fn not_read(why: NotRead) -> FileFault {
 }
 
 /// The first line of this file, without its line feed.
-fn first_line_of(alloc: Global, file: &mut File) -> Result<Vec<u8>, FileFault> {
+pub(crate) fn first_line_of(alloc: Global, file: &mut File) -> Result<Vec<u8>, FileFault> {
     let mut piece = vec![in alloc; 0u8; PIECE]?;
     let len = file.read(&mut piece)?;
     let front = piece.get(..len).unwrap_or(b"");

@@ -2,7 +2,7 @@
 ghost use Rattle.std.specs.Prelude.{◌≡◌, ◌⊎◌, ◌+◌, ℕ, IfErr, IfOk, List};
 ghost use Rattle.warp_prog.specs.Explain.{IsLabelled, Names};
 ghost use Rattle.warp_prog.specs.Load.{IsLoaded, IsRefused};
-ghost use Rattle.warp_prog.specs.Reading.{longest_file};
+ghost use Rattle.warp_prog.specs.Reading.{longest_begun};
 ghost use Rattle.warp_prog.specs.declared.error.LoadError.{LoadError};
 ghost use Rattle.warp_step.specs.Twice.{twice};
 ghost use Rattle.warpd.specs.Outcome.{IsFrontOf, IsNamedWith, IsNone, refused_outcome, trace_names};
@@ -61,11 +61,11 @@ fn built_in_labelled(alloc: Global) -> Result<Labelled, Outcome>
 /// may have, so many that it is seen.
 fn file_labelled<R: Read + Drop>(alloc: Global, reader: R) -> Result<Labelled, Outcome>
     ensures ok { IfOk result (λ l. (bytes : List ℕ)
-        × IsFrontOf (longest_file + 1) (R.remaining reader) bytes
+        × IsFrontOf (longest_begun + 1) (R.remaining reader) bytes
         × ((labels : Names) × IsLoaded bytes l.program × IsLabelled bytes labels
         × (l.labels ≡ trace_names labels))) }
     ensures err { IfErr result (λ outcome. (outcome ≡ Outcome.NoProgram) ⊎ (outcome ≡ Outcome.Memory)
-        ⊎ ((bytes : List ℕ) × IsFrontOf (longest_file + 1) (R.remaining reader) bytes
+        ⊎ ((bytes : List ℕ) × IsFrontOf (longest_begun + 1) (R.remaining reader) bytes
         × ((error : LoadError) × IsRefused bytes error × (outcome ≡ refused_outcome error)))) }
 {
     let bytes = first_bytes(alloc, reader, ENOUGH, Outcome::NoProgram)?;

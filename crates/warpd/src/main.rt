@@ -5,6 +5,7 @@ mod checking;
 mod clock_words;
 mod closed_streams;
 mod connection;
+mod continuing;
 mod file_bytes;
 mod gatherer;
 mod host_program;
@@ -12,6 +13,8 @@ mod host_words;
 mod hosting;
 mod journals;
 mod labelled;
+mod next_files;
+mod old_log;
 mod origins;
 mod outcome;
 mod peers;
@@ -21,6 +24,7 @@ mod schedule_file;
 mod service;
 mod site;
 mod stack;
+mod stating;
 mod stepping;
 mod streams;
 mod telling;
@@ -36,13 +40,15 @@ ghost use Rattle.clap.specs.Words.{kind_of};
 ghost use Rattle.warp_lanes.specs.Engine.{most_lanes};
 ghost use Rattle.warp_step.specs.Counter.{IsUnused};
 ghost use Rattle.warpd.specs.Outcome.{Checks, Does, EndsSo, Hosts, IsPrinted, IsShown, Obeys, Plays, PlaysBytes, PlaysOver};
-ghost use Rattle.warpd.specs.Outcome.{Runs, Seen, ServesAt, ServesInLanes, ServesNamed, Traces, TracesAs};
+ghost use Rattle.warpd.specs.Outcome.{Runs, Seen, ServesAt, ServesInLanes, ServesNamed, States, StatesOver, Traces, TracesAs};
 ghost use Rattle.warpd.specs.Outcome.{ready_line, status_of, told_line, untouched};
-ghost use Rattle.warp_words.specs.Words.{task_of};
+ghost use Rattle.warp_tag.specs.Limits.{last_time, widest};
+ghost use Rattle.warp_words.specs.Words.{IsInRange, task_of};
 
 use checking::account_of;
 use clap::error::ErrorKind;
 use closed_streams::take_closed;
+use continuing::go_on;
 use hosting::host_job;
 use journals::see_journal;
 use labelled::{Labelled, labelled_program};
@@ -51,6 +57,7 @@ use program_file::program_named;
 use schedule_file::schedule_bytes;
 use service::{Host, Service, listen, serve_at};
 use stack::take_stack;
+use stating::state_lines;
 use std::alloc::{AllocError, Global};
 use std::fs::Files;
 use std::io::{Eprint, Print, Read, Write};
@@ -207,6 +214,7 @@ fn carry_out<P: Host + Net<Listener = TcpListener, Stream = TcpStream>, R: Sourc
     job: Job<'_>,
     streams: &mut Streams<R, W>,
 ) -> Outcome
+    requires { IsInRange (task_of job) }
     ensures { Does (task_of job.entry) streams.old streams.new result }
 {
     match job {
@@ -236,6 +244,8 @@ fn carry_out<P: Host + Net<Listener = TcpListener, Stream = TcpStream>, R: Sourc
         } => trace(rt, alloc, program, with_steps, streams),
         Job::Host(job) => host(rt, alloc, &job, streams),
         Job::Journal { action, file } => see_journal(rt, alloc, action, file, streams),
+        Job::State { program, at } => state(rt, alloc, program, at, streams),
+        Job::Continue(job) => go_on(rt, alloc, &job, streams),
     }
 }
 
@@ -397,6 +407,37 @@ fn trace_labelled<R: Source, W: Sink>(
     } else {
         trace_lines(alloc, program, &labels, streams)
     }
+}
+
+/// Prints the state of the run of the program of this name over the lines of the streams, behind all rows before the time.
+fn state<F: Files, R: Source, W: Sink>(
+    files: &F,
+    alloc: Global,
+    name: &str,
+    time: u64,
+    streams: &mut Streams<R, W>,
+) -> Outcome
+    requires { time ≤ last_time widest }
+    ensures { States name.now time streams.old streams.new result }
+{
+    match labelled_program(files, alloc, name) {
+        Ok(labelled) => state_labelled(alloc, labelled, time, streams),
+        Err(outcome) => outcome,
+    }
+}
+
+/// Prints the state of the run of this program, behind all rows before the time.
+fn state_labelled<R: Source, W: Sink>(
+    alloc: Global,
+    labelled: Labelled,
+    time: u64,
+    streams: &mut Streams<R, W>,
+) -> Outcome
+    requires { time ≤ last_time widest }
+    ensures { StatesOver labelled.program labelled.labels time streams.old streams.new result }
+{
+    let Labelled { program, labels } = labelled;
+    state_lines(alloc, program, &labels, time, streams)
 }
 
 /// Serves sessions of the program of this name over TCP, where there are lanes enough.

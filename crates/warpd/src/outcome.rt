@@ -7,6 +7,7 @@ ghost use Rattle.warpd.specs.Outcome.{status_of, unread_words};
 
 use arrayvec::ArrayString;
 use itoa::Buffer;
+use std::alloc::{AllocError, AllocFailed};
 use warp_disk::OpenFault;
 use warp_host::{HostFault, TokenFault};
 use warp_session::{ServeFault, SessionEnd};
@@ -86,6 +87,16 @@ pub enum Outcome {
     NoTick,
     /// Over the log this origin can't be kept.
     NotKept(u64),
+    /// A name that is to be changed is no `REACTOR.NAME=REACTOR.NAME`.
+    NoRename,
+    /// The run can't be cut at that time.
+    NoCut,
+    /// The program that is to go on is not of version 4.
+    OlderProgram,
+    /// A file that is to be made is there already.
+    NextIsThere,
+    /// A file that is to be made couldn't be written.
+    NoNext,
     /// There is no program of this name, or its file couldn't be read.
     NoProgram,
     /// The file of the schedule couldn't be read.
@@ -100,6 +111,28 @@ pub enum Outcome {
     Listen,
     /// A connection couldn't be accepted, or a thread couldn't be started.
     Accept,
+}
+
+impl From<AllocError> for Outcome {
+    ghost use Rattle.std.specs.Prelude.{◌≡◌};
+    ghost use Rattle.warpd.specs.declared.outcome.Outcome.TheVariants.{Memory};
+
+    ghost from_gives = { λ _ outcome. outcome ≡ Memory };
+
+    fn from(_error: AllocError) -> Outcome {
+        Outcome::Memory
+    }
+}
+
+impl<T: Drop> From<AllocFailed<T>> for Outcome {
+    ghost use Rattle.std.specs.Prelude.{◌≡◌};
+    ghost use Rattle.warpd.specs.declared.outcome.Outcome.TheVariants.{Memory};
+
+    ghost from_gives = { λ _ outcome. outcome ≡ Memory };
+
+    fn from(_error: AllocFailed<T>) -> Outcome {
+        Outcome::Memory
+    }
 }
 
 /// The exit status of a run that ended so, 0 to 6.
@@ -117,7 +150,9 @@ pub fn status(outcome: Outcome) -> u8
         Outcome::NoSite => 4,
         Outcome::LargeSite | Outcome::NotKept(_) => 3,
         Outcome::NoClock | Outcome::ClockWithPeers => 2,
-        Outcome::NoKeep | Outcome::NoPause | Outcome::NoTick => 2,
+        Outcome::NoKeep | Outcome::NoPause | Outcome::NoTick | Outcome::NoRename => 2,
+        Outcome::NoCut | Outcome::OlderProgram | Outcome::NextIsThere => 3,
+        Outcome::NoNext => 4,
         Outcome::JournalInUse => 6,
         Outcome::ShownTokens(_) | Outcome::BadTokens(_, _) => 3,
         Outcome::NoProgram | Outcome::NoSchedule | Outcome::NoTokens(_) => 4,
@@ -162,6 +197,11 @@ pub fn say(outcome: Outcome) -> ArrayString<LONGEST_LINE>
         Outcome::NoPause => plain("--pause is stand or jump\n"),
         Outcome::NoTick => plain("--tick is an input of a kept origin\n"),
         Outcome::NotKept(origin) => with_number("cannot keep origin ", origin),
+        Outcome::NoRename => plain("--rename is REACTOR.NAME=REACTOR.NAME, each once\n"),
+        Outcome::NoCut => plain("cannot cut there\n"),
+        Outcome::OlderProgram => plain("the new program is not of version 4\n"),
+        Outcome::NextIsThere => plain("a file of NEXT is there already\n"),
+        Outcome::NoNext => plain("cannot write the files of NEXT\n"),
         Outcome::NoProgram => plain("cannot read the program\n"),
         Outcome::NoSchedule => plain("cannot read the schedule\n"),
         Outcome::Input => plain("input failed\n"),

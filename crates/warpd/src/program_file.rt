@@ -2,7 +2,7 @@
 ghost use Rattle.std.specs.Prelude.{◌≡◌, ◌⊎◌, ◌+◌, ℕ, IfErr, IfOk, List};
 ghost use Rattle.warp_step.specs.Twice.{twice};
 ghost use Rattle.warp_prog.specs.Load.{IsLoaded, IsRefused};
-ghost use Rattle.warp_prog.specs.Reading.{longest_file};
+ghost use Rattle.warp_prog.specs.Reading.{longest_begun};
 ghost use Rattle.warpd.specs.Outcome.{IsFrontOf, IsNamed, IsNone, refused_outcome};
 
 use crate::file_bytes::{first_bytes, without_file};
@@ -10,11 +10,12 @@ use crate::outcome::Outcome;
 use std::alloc::Global;
 use std::fs::{self, Files};
 use std::io::Read;
-use warp_prog::{LoadError, load};
+use warp_prog::{LoadError, load_begun};
 use warp_step::Program;
 
-/// One more than the most bytes of a program file: as many are read, so that a longer one is seen to be longer.
-pub(crate) const ENOUGH: u64 = 1_048_577;
+/// One more than the most bytes of a program file, one that goes on from another: as many are read, so that a longer one
+/// is seen to be longer.
+pub(crate) const ENOUGH: u64 = 4_194_305;
 
 /// The program `builtin:twice` as a file, for its names.
 pub(crate) const TWICE: &str = "\
@@ -59,9 +60,9 @@ pub(crate) fn built_in(alloc: Global) -> Result<Program, Outcome>
 /// many that it is seen.
 fn loaded<R: Read + Drop>(alloc: Global, reader: R) -> Result<Program, Outcome>
     ensures ok { IfOk result
-        (λ P. (bytes : List ℕ) × IsFrontOf (longest_file + 1) (R.remaining reader) bytes × IsLoaded bytes P) }
+        (λ P. (bytes : List ℕ) × IsFrontOf (longest_begun + 1) (R.remaining reader) bytes × IsLoaded bytes P) }
     ensures err { IfErr result (λ outcome. (outcome ≡ Outcome.NoProgram) ⊎ (outcome ≡ Outcome.Memory)
-        ⊎ ((bytes : List ℕ) × IsFrontOf (longest_file + 1) (R.remaining reader) bytes
+        ⊎ ((bytes : List ℕ) × IsFrontOf (longest_begun + 1) (R.remaining reader) bytes
         × ((error : LoadError) × IsRefused bytes error × (outcome ≡ refused_outcome error)))) }
 {
     let bytes = first_bytes(alloc, reader, ENOUGH, Outcome::NoProgram)?;
@@ -76,7 +77,7 @@ pub(crate) fn spelled_program(alloc: Global, bytes: &[u8]) -> Result<Program, Ou
     ensures err { IfErr result
         (λ outcome. (error : LoadError) × IsRefused bytes.now error × (outcome ≡ refused_outcome error)) }
 {
-    match load(alloc, bytes) {
+    match load_begun(alloc, bytes) {
         Ok(program) => Ok(program),
         Err(error) => Err(refused(error)),
     }

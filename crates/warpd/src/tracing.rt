@@ -48,7 +48,7 @@ fn trace_at<R: Source, W: Sink>(
 
 /// Puts the lines of the source to the desk. What it replies is not written, but the remark tells which lines it
 /// refused.
-fn read_lines<R: Source, W: Sink>(
+pub(crate) fn read_lines<R: Source, W: Sink>(
     alloc: Global,
     desk: &mut Gatherer,
     streams: &mut Streams<R, W>,

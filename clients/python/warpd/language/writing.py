@@ -15,7 +15,8 @@ KEYWORDS = {
     "struct",
 }
 # Which keys each object of a program file has, those with lists apart.
-FILE = (("version", "stop", "origins"), ("reactors", "links", "inputs", "outputs"))
+FILE = (("version", "stop", "origins", "begin"), ("reactors", "links", "inputs", "outputs"))
+BEGIN = (("lost", "since"), ("pending",))
 REACTOR = (("name",), ("vars", "arrays", "inputs", "outputs", "actions", "timers", "reactions", "called", "hidden"))
 REACTION = ((), ("on", "reads", "writes", "body"))
 # How tight each operator binds, as in C.
@@ -218,6 +219,15 @@ def own_names(reactor: Mapping) -> list[str]:
     return [text for each, text in reactor.get("called", ()) if not each]
 
 
+def begun(begin: Mapping) -> list[str]:
+    """Remarks on where a program begins that goes on from another one: a text has no words for that."""
+    checked(begin, BEGIN)
+    told = [f"since {number(begin.get('since', 0))}, {number(begin.get('lost', 0))} lost"]
+    for time, microstep, to, value in begin.get("pending", ()):
+        told.append(f"pending at ({number(time)}, {number(microstep)}): {port(to)}, {number(value)}")
+    return ["// Goes on from another program, which this text does not say:", *(f"//   {it}" for it in told)]
+
+
 def text_of(program: Mapping) -> str:
     """The text of a program file. What is none, a `KeyError`, `TypeError`, `AttributeError` or `ValueError` tells."""
     checked(program, FILE)
@@ -229,7 +239,8 @@ def text_of(program: Mapping) -> str:
         target.append(f"version: {number(program['version'])}")
     if any(link[2:] == [0] for link in program.get("links", ())) or any(map(_has_next, reactors)):
         target.append("microsteps_at_stop: true")
-    lines = [f"target warpd {{ {', '.join(target)} }}", ""]
+    remarks = begun(program["begin"]) if "begin" in program else []
+    lines = [*remarks, f"target warpd {{ {', '.join(target)} }}", ""]
     titled = _titled(reactors)
     for title, it in titled.values():
         lines += _reactor(name(title), it)

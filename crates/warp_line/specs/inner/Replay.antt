@@ -1,7 +1,7 @@
 -- What one turn of a replay does: it goes past the entries of one tag, with a step where something is given or pending
 -- there. This follows the loop, for its proof's sake: no public contract cites it.
 use Rattle.std.specs.Prelude.{◌≡◌, ℕ, ◌+◌, ◌≤◌, Bool, false, not, ◌||◌, nat_lt, IsTrue, List, [], ◌∷◌, ◌++◌, length}
-use Rattle.std.specs.Prelude.{take, drop, Option, Some, if◌then◌else◌}
+use Rattle.std.specs.Prelude.{take, drop, Option, None, Some, if◌then◌else◌}
 use Rattle.std.specs.List.{list_all, list_any}
 use Rattle.warp_tag.specs.Moment.{Moment, is_before, is_same}
 use Rattle.warp_tag.specs.declared.entry.Entry.{Entry}
@@ -16,6 +16,11 @@ use Rattle.warp_step.specs.declared.pending.Waiting.{Waiting}
 abbrev pub next_of : List Entry → Option Moment → Option Moment
 next_of [] pending = pending
 next_of (e ∷ es) pending = Some (earlier e.tag pending)
+
+-- the tag, if there is one and it is before this one
+abbrev pub if_before : Moment → Option Moment → Option Moment
+if_before end None = None
+if_before end (Some t) = if is_before t end then Some t else None
 
 -- the first entry, if there is one, has another tag
 abbrev pub HasOtherHead : Moment → List Entry → Type 0

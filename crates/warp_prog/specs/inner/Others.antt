@@ -10,9 +10,9 @@ abbrev pub ends_exceed : File → Bool
 ends_exceed f =
     is_outside (pos 0) (pos (longest_stop (file_form f))) f.stop || is_outside (pos 1) (pos (most_origins (file_form f))) f.origins
 
--- a file with a number of its own outside its range, that goes on from another one, or with too many things
+-- a file with a number of its own outside its range, one where it begins, or with too many things
 abbrev pub counts_exceed : File → Bool
-counts_exceed f = ends_exceed f || begin_exceeds f.begin || lists_exceed f || totals_exceed (file_form f) f.reactors
+counts_exceed f = ends_exceed f || begin_exceeds (file_form f) f.stop f.begin || lists_exceed f || totals_exceed (file_form f) f.reactors
 
 -- a file that goes past one of these limits
 abbrev pub others_exceed : File → Bool

@@ -1,9 +1,10 @@
 -- For the proofs of the numbers: what stands before a reactor, with what stands in it, is within the limits of a program.
-use Rattle.std.specs.Prelude.{◌≡◌, ◌+◌, ◌<◌, ◌≤◌, Bool, false, List, length}
-use Rattle.std.specs.List.{list_any}
-use Rattle.warp_tag.specs.Limits.{widest, most_reactors, most_variables, most_ports, most_actions, most_timers}
-use Rattle.warp_prog.specs.File.{NamedStatement, NamedBody, ReactionPart, ReactorPart}
+use Rattle.std.specs.Prelude.{◌≡◌, ◌+◌, ◌<◌, ◌≤◌, ◌&&◌, nat_le, unsigned_abs, Bool, false, IsTrue, List, length, Option, Some, None}
+use Rattle.std.specs.List.{list_all, list_any}
+use Rattle.warp_tag.specs.Limits.{last_microstep, last_time, widest, most_reactors, most_variables, most_ports, most_actions, most_timers}
+use Rattle.warp_prog.specs.File.{BeginPart, NamedStatement, NamedBody, ReactionPart, ReactorPart}
 use Rattle.warp_prog.specs.Limits.{body_mosts, cells_of, most_exceeds, statement_mosts, total}
+use Rattle.warp_prog.specs.declared.file.PendingPart.{PendingPart}
 use Rattle.warp_prog.specs.declared.scope.Before.{Before}
 
 -- a loop that may turn too often, or never, in a statement, in a list of statements, and in the reactions of a reactor
@@ -15,6 +16,15 @@ loops_exceed b = list_any most_exceeds (body_mosts b)
 
 abbrev pub its_loops_exceed : ReactorPart → Bool
 its_loops_exceed r = list_any (λ (n : ReactionPart). loops_exceed n.body) r.reactions
+
+-- what is pending at a tag that is in the widest form's range
+abbrev pub is_tag : PendingPart → Bool
+is_tag p = nat_le (unsigned_abs p.time) (last_time widest) && nat_le (unsigned_abs p.microstep) (last_microstep widest)
+
+-- all that is where a file begins
+abbrev pub AreTags : Option BeginPart → Type 0
+AreTags None = Unit {0}
+AreTags (Some b) = IsTrue (list_all is_tag b.pending)
 
 -- for the numbers of a reactor
 pub record HasRoom (b : Before) (r : ReactorPart) : Type 0 where

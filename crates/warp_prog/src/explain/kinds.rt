@@ -29,7 +29,7 @@ const NOTHING: Kinds = Kinds {
     timers: false,
 };
 
-/// What triggers a reaction, or may be present.
+/// What triggers a reaction, or may be present or pending.
 const CAUSE: Kinds = Kinds {
     words: "input, action or timer",
     inputs: true,

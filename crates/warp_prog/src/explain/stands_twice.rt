@@ -3,17 +3,17 @@
 use crate::backward::place;
 use crate::explain::reason::Reason;
 use crate::explain::trail::{Segment, Trail};
-use crate::file::{CalledPart, LinkPart, PortName, ProgramFile, Reactor};
+use crate::file::{Beginning, CalledPart, LinkPart, PendingPart, PortName, ProgramFile, Reactor};
 use crate::name::Name;
 use crate::named::{Named, is_among, is_startup};
 use crate::numbered::place::place_among;
-use crate::stands_twice::{Refers, called_name, is_same_port};
+use crate::stands_twice::{Refers, called_name, is_same_entry, is_same_port};
 
 /// What is wrong with a port to which something leads a second time.
 const FED: &str = "has a source already";
 
-/// Whether something stands a second time: a reactor's name, a name in a reactor, an input port that has a source, or a
-/// port among the outputs.
+/// Whether something stands a second time: a reactor's name, a name in a reactor, an input port that has a source, a
+/// port among the outputs, or what is pending where the file begins.
 pub(crate) fn once_fails<'f>(file: &'f ProgramFile, at: &mut Trail<'f>) -> bool {
     for (i, reactor) in file.reactors.iter().enumerate() {
         if reactor_fails(&file.reactors, i, reactor, at) {
@@ -23,6 +23,26 @@ pub(crate) fn once_fails<'f>(file: &'f ProgramFile, at: &mut Trail<'f>) -> bool 
     targets_fail(&[], &file.links, "links", at)
         || targets_fail(&file.links, &file.inputs, "inputs", at)
         || outputs_fail(&file.outputs, at)
+        || begin_fails(&file.begin, at)
+}
+
+/// Whether something is pending a second time where the file begins.
+fn begin_fails(begin: &Option<Beginning>, at: &mut Trail) -> bool {
+    match begin {
+        None => false,
+        Some(begin) => pending_fails(&begin.pending, at) && at.back(Segment::Key("begin")),
+    }
+}
+
+fn pending_fails(pending: &[PendingPart], at: &mut Trail) -> bool {
+    for (i, entry) in pending.iter().enumerate() {
+        let before = pending.get(..i).unwrap_or(&[]);
+        if before.iter().any(|other| is_same_entry(entry, other)) {
+            let reason = Reason::Plain("this is pending there already");
+            return at.fault_at(Segment::Of("pending", i), reason);
+        }
+    }
+    false
 }
 
 /// Whether a reactor's name stands twice.

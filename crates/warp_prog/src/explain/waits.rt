@@ -1,9 +1,9 @@
 //! What is told of a program in which more values may wait behind delays at once than entries can be pending: of those
 //! that timers bring, one at each of their ticks.
-ghost use Rattle.std.specs.Prelude.{◌≡◌, ◌↔◌, ◌++◌, true, IfOk, IsTrue, OnOk, map, min, slice_set, string_bytes};
+ghost use Rattle.std.specs.Prelude.{◌≡◌, ◌↔◌, ◌++◌, true, IfOk, IsTrue, OnOk, map, min, slice_get, slice_set, string_bytes};
 ghost use Rattle.std.specs.List.{list_any};
-ghost use Rattle.warp_prog.specs.Waits.{all_text, entries, entries_of, held, label_at, most_text, nothing, passage_of, target_place, reach_from, reaches_of};
-ghost use Rattle.warp_prog.specs.Waits.{tallied, tally_all, tally_ways, target_label, waits_line, waits_of, waits_text};
+ghost use Rattle.warp_prog.specs.Waits.{all_text, entries, entries_of, entry_reach, held, label_at, most_text, nothing, passage_of, target_place, reach_from, reaches_at, reaches_in, reaches_of};
+ghost use Rattle.warp_prog.specs.Waits.{tallied, tally_all, tally_ways, target_label, timer_reach, waits_line, waits_of, waits_text};
 ghost use Rattle.warp_prog.specs.Work.{shown};
 ghost use Rattle.warp_prog.specs.inner.Spread.{followed, is_marked, led, reach_of, spread, with_ends};
 
@@ -12,7 +12,7 @@ use crate::explain::labels::Labels;
 use crate::explain::routes::{Route, Way, routes_of};
 use std::alloc::{AllocError, Global};
 use warp_body::Target;
-use warp_step::{Program, Timer};
+use warp_step::{Program, Timer, Waiting};
 
 /// How many entries of a program are pending at most.
 const MOST_PENDING: u64 = 256;
@@ -121,7 +121,7 @@ fn waits_of(alloc: Global, program: &Program) -> Result<Tally, AllocError>
     ensures { IfOk result (λ waits. waits ≡ waits_of program.now) }
 {
     let routes = routes_of(alloc, program)?;
-    let waves = waves(alloc, &routes, program.timers())?;
+    let waves = program_waves(alloc, &routes, program)?;
     Ok(tally_all(program.stop(), &waves, &routes))
 }
 
@@ -199,6 +199,81 @@ fn lesser(a: u64, b: u64) -> u64
 struct Wave {
     timer: Timer,
     reached: Vec<bool>,
+}
+
+/// Of each timer of the program that ticks to which targets it leads.
+fn program_waves(
+    alloc: Global,
+    routes: &[Route],
+    program: &Program,
+) -> Result<Vec<Wave>, AllocError>
+    ensures { IfOk result (λ waves. map reach_of waves.items
+        ≡ reaches_in (map passage_of routes.now) program.now.timers program.now.begin) }
+{
+    match program.begin() {
+        None => waves(alloc, routes, program.timers()),
+        Some(begin) => pending_waves(alloc, routes, program.timers(), &begin.pending),
+    }
+}
+
+/// Of each of these timers that is pending to which targets it leads.
+fn pending_waves(
+    alloc: Global,
+    routes: &[Route],
+    timers: &[Timer],
+    pending: &[Waiting],
+) -> Result<Vec<Wave>, AllocError>
+    ensures { IfOk result (λ waves. map reach_of waves.items ≡ reaches_at (map passage_of routes.now) timers.now pending.now) }
+{
+    let mut waves = Vec::new(alloc);
+    for entry in pending {
+        add_wave(alloc, &mut waves, routes, timers, entry)?;
+    }
+    Ok(waves)
+}
+
+/// Adds to which targets a timer leads, if one is pending.
+fn add_wave(
+    alloc: Global,
+    waves: &mut Vec<Wave>,
+    routes: &[Route],
+    timers: &[Timer],
+    entry: &Waiting,
+) -> Result<(), AllocError>
+    ensures { OnOk result (map reach_of waves.new.items ≡ map reach_of waves.old.items
+        ++ entry_reach (map passage_of routes.now) timers.now entry.now.tag.time entry.now.target) }
+{
+    match entry.target {
+        Target::Timer(number) => {
+            add_timer_wave(alloc, waves, routes, timers, number, entry.tag.time())
+        }
+        Target::Startup | Target::Action(_) | Target::Port(_) => Ok(()),
+    }
+}
+
+/// Adds to which targets the timer with this number leads, if it is there; it is pending at this time.
+fn add_timer_wave(
+    alloc: Global,
+    waves: &mut Vec<Wave>,
+    routes: &[Route],
+    timers: &[Timer],
+    number: u32,
+    time: u64,
+) -> Result<(), AllocError>
+    ensures { OnOk result (map reach_of waves.new.items ≡ map reach_of waves.old.items
+        ++ timer_reach (map passage_of routes.now) time number (slice_get timers.now number)) }
+{
+    let Some(timer) = timers.get(number as usize) else {
+        return Ok(());
+    };
+    let ticking = Timer {
+        reactor: timer.reactor,
+        offset: time,
+        period: timer.period,
+    };
+    let wave = timer_wave(alloc, routes, &ticking, number as usize + 1)?;
+    waves.push(wave)?;
+    Ok(())
 }
 
 /// Of each of these timers to which targets it leads.

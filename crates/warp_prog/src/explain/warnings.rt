@@ -3,7 +3,10 @@
 use crate::explain::reason::Reason;
 use crate::explain::trail::{Segment, Trail};
 use crate::explain::{Source, write_found};
-use crate::file::{Expression, InputPart, PortName, ProgramFile, Reaction, Reactor, Statement};
+use crate::file::{
+    Beginning, Expression, InputPart, PendingPart, PortName, ProgramFile, Reaction, Reactor,
+    Statement,
+};
 use crate::misread::Misread;
 use crate::name::Name;
 use crate::named::{is_among, is_same, is_startup};
@@ -195,7 +198,7 @@ fn may_run(file: &ProgramFile, reactor: &Reactor, reaction: &Reaction) -> bool {
 }
 
 /// Whether what has this name may be present: the start; an input to which a link or a program input leads; an action
-/// that a reaction writes; or a timer whose offset is not behind the stop.
+/// that a reaction writes; a timer whose offset is not behind the stop; or what is pending where the file begins.
 fn may_come(file: &ProgramFile, reactor: &Reactor, name: &Name) -> bool {
     is_startup(name)
         || (is_among(&reactor.inputs, name)
@@ -203,6 +206,25 @@ fn may_come(file: &ProgramFile, reactor: &Reactor, name: &Name) -> bool {
                 || any_is_port_of(&file.inputs, reactor, name)))
         || (is_among(&reactor.actions, name) && is_written(&reactor.reactions, name))
         || begins_in_time(reactor, name, file.stop)
+        || is_pending(&file.begin, reactor, name)
+}
+
+/// Whether what has this name in a reactor is pending where a file begins.
+fn is_pending(begin: &Option<Beginning>, reactor: &Reactor, name: &Name) -> bool {
+    match begin {
+        Some(begin) => any_is_pending(&begin.pending, reactor, name),
+        None => false,
+    }
+}
+
+/// Whether one of these entries is for what has this name in a reactor.
+fn any_is_pending(pending: &[PendingPart], reactor: &Reactor, name: &Name) -> bool {
+    for entry in pending {
+        if is_port_of(&entry.target, reactor, name) {
+            return true;
+        }
+    }
+    false
 }
 
 /// Whether one of these reactions writes this name.

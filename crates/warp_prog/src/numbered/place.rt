@@ -3,7 +3,7 @@ ghost use Rattle.std.specs.Prelude.{◌≡◌, ◌≤◌, length, map, is_some, 
 ghost use Rattle.warp_body.specs.declared.place.Target.TheVariants.{Startup, Timer, Action};
 ghost use Rattle.warp_prog.specs.Numbered.{nothing_before, past, place_among, variable_number, input_number};
 ghost use Rattle.warp_prog.specs.Numbered.{output_number, action_number, timer_number, readable, writable};
-ghost use Rattle.warp_prog.specs.Numbered.{cell_count, first_cell, source_number, target_number};
+ghost use Rattle.warp_prog.specs.Numbered.{cell_count, first_cell, source_number, target_named, target_number};
 ghost use Rattle.warp_prog.specs.Limits.{cells_of};
 ghost use Rattle.warp_tag.specs.Limits.{most_variables, widest};
 ghost use Rattle.warp_prog.specs.inner.Room.{HasRoom, HaveRoom};
@@ -206,6 +206,21 @@ pub(crate) fn source_number(reactors: &[Reactor], port: &PortName) -> u32
         before = past(&before, reactor);
     }
     0
+}
+
+/// What a reference names that may be pending; startup where no reactor has its name.
+pub(crate) fn target_named(reactors: &[Reactor], port: &PortName) -> Target
+    requires { HaveRoom (nothing_before 0) (map reactor_tree reactors.now) }
+    ensures { result ≡ target_named (map reactor_tree reactors.now) port.now }
+{
+    let mut before = nothing_before(0);
+    for reactor in reactors {
+        if is_same(&port.reactor, &reactor.name) {
+            return readable(&before, reactor, &port.port);
+        }
+        before = past(&before, reactor);
+    }
+    Target::Startup
 }
 
 /// The number of the input that a reference names; 0 where no reactor has its name.

@@ -9,7 +9,7 @@ use crate::shape::json::FromJson;
 use serde_json::Value;
 
 /// The reference to a port that a text is: two names with `.` between them.
-fn port(text: &str) -> Option<PortName>
+pub fn read_port(text: &str) -> Option<PortName>
     ensures { result ≡ port_of text.now }
 {
     let (reactor, port) = text.split_once('.')?;
@@ -29,7 +29,7 @@ pub(crate) fn name_at(value: &Value) -> Option<Name>
 pub(crate) fn port_at(value: &Value) -> Option<PortName>
     ensures { result ≡ port_at (view value.now) }
 {
-    port(value.as_str()?)
+    read_port(value.as_str()?)
 }
 
 /// The number that a value is.

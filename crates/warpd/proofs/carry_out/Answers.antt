@@ -1,6 +1,8 @@
 -- What each job asks for is done. There are as many peers as words that name them.
-use Rattle.std.proofs.Common.{◌≡◌, ◌∙◌, length, map, sym}
+use Rattle.std.proofs.Common.{◌≡◌, ◌∙◌, length, map, subst, sym, arith}
 use Rattle.std.proofs.lemmas.List.{length-map}
+use Rattle.warp_words.specs.Words.{IsInRange, task_of}
+use Rattle.warp_words.specs.declared.job.Job.{Job}
 use Rattle.warpd.proofs.carry_out.Goals as goal
 
 pub returns-in-Run : goal.returns-in-Run
@@ -26,3 +28,14 @@ returns-in-Host g c = rw c.in-Host.is c.host.ensures
 
 pub returns-in-Journal : goal.returns-in-Journal
 returns-in-Journal g c = rw c.in-Journal.is c.see_journal.ensures
+
+pub state-requires : goal.state-requires
+state-requires g c =
+    let range = subst (λ (job : Job). IsInRange (task_of job)) c.in-State.is c.requires in
+    omega (arith, range.1)
+
+pub returns-in-State : goal.returns-in-State
+returns-in-State g c = rw c.in-State.is c.state.ensures
+
+pub returns-in-Continue : goal.returns-in-Continue
+returns-in-Continue g c = rw c.in-Continue.is c.go_on.ensures

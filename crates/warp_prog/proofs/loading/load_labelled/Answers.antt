@@ -3,7 +3,7 @@ use Rattle.std.proofs.lemmas.Result.{IfErr-weaker, IfOk-weaker}
 use Rattle.warp_prog.specs.Load.{IsLoaded, IsRefused}
 use Rattle.warp_prog.specs.View.{file_tree}
 use Rattle.warp_prog.specs.declared.error.LoadError.TheVariants.{Memory}
-use Rattle.warp_prog.proofs.LoadLemmas.{read-file}
+use Rattle.warp_prog.proofs.LoadLemmas.{read-short}
 use Rattle.warp_prog.proofs.loading.load_labelled.Goals as goal
 
 pub returns-clause-program : goal.returns-clause-program
@@ -15,5 +15,5 @@ returns-clause-program c =
 pub returns-clause-err : goal.returns-clause-err
 returns-clause-err c =
     IfErr-weaker c.with_labels.result (λ error. error ≡ Memory) (IsRefused c.args.bytes.now)
-    (λ error m. subst (IsRefused c.args.bytes.now) (sym m) (read-file c.args.bytes.now (file_tree c.in_ok-read.read.file) c.in_ok-read.ensures.file).0)
+    (λ error m. subst (IsRefused c.args.bytes.now) (sym m) (read-short c.args.bytes.now (file_tree c.in_ok-read.read.file) c.in_ok-read.ensures.file))
     c.with_labels.ensures.err

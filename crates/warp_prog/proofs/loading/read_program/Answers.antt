@@ -21,6 +21,9 @@ pub new-requires : goal.new-requires
 new-requires c =
     subst (λ P. IsTrue (is_valid P)) (sym c.in_ok-parts.ensures.parts) (fits-together (file_tree c.in_ok-file.file) c.in_ok-parts.ensures.faultless)
 
+pub returns-clause-numbered : goal.returns-clause-numbered
+returns-clause-numbered c = c.new.ensures ∙ c.in_ok-parts.ensures.parts
+
 pub returns-clause-program : goal.returns-clause-program
 returns-clause-program c =
     loaded c.args.bytes.now (file_tree c.in_ok-file.file) c.new.result c.in_ok-file.ensures.ok c.in_ok-parts.ensures.faultless

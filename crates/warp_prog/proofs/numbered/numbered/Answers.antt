@@ -1,14 +1,15 @@
 -- a file without fault is within the limits, so its numbers fit
-use Rattle.std.proofs.Common.{arith, rules, [], ◌≡◌, ◌++◌, ◌∙◌, sym, subst, ap, ap₂, length, map, List}
+use Rattle.std.proofs.Common.{arith, rules, [], ◌≡◌, ◌++◌, ◌∙◌, sym, subst, ap, ap₂, length, map, option_map, List}
 use Rattle.std.proofs.lemmas.List.{length-map}
 use Rattle.warp_step.specs.Program.{rule_of}
+use Rattle.warp_step.specs.View.{begun_of}
 use Rattle.warp_step.specs.declared.parts.Variable.{Variable}
-use Rattle.warp_prog.specs.Numbered.{nothing_before, file_front, in_each, its_variables, its_cells, its_ports, its_actions, its_timers, its_reactions, numbered_link, numbered_input, source_number, variables_in}
+use Rattle.warp_prog.specs.Numbered.{nothing_before, file_front, in_each, its_variables, its_cells, its_ports, its_actions, its_timers, its_reactions, numbered_link, numbered_input, numbered_begin, source_number, variables_in}
 use Rattle.warp_prog.specs.View.{file_tree, reactor_tree}
 use Rattle.warp_prog.specs.inner.Room.{HaveRoom}
 use Rattle.warp_prog.specs.declared.file.Reactor.{Reactor}
 use Rattle.warp_prog.specs.declared.scope.Before.{Before}
-use Rattle.warp_prog.proofs.RoomLemmas.{few_reactors, few_variables, have_room, have_room_alone, origins_fit, each_origin_fits}
+use Rattle.warp_prog.proofs.RoomLemmas.{few_reactors, few_variables, have_room, have_room_alone, origins_fit, each_origin_fits, tags_fit}
 use Rattle.warp_prog.proofs.numbered.numbered.Goals as goal
 
 -- what reactors have room for, the same reactors have
@@ -36,6 +37,13 @@ numbered_inputs-requires-clause-origins c = let origins = each_origin_fits (file
 pub numbered_outputs-requires : goal.numbered_outputs-requires
 numbered_outputs-requires c =
     room_of c.args.file.now.reactors.items c.deref-reactors.result.now c.deref-reactors.ensures.value (have_room_alone (file_tree c.args.file.now) c.requires)
+
+pub numbered_begin-requires-clause-room : goal.numbered_begin-requires-clause-room
+numbered_begin-requires-clause-room c =
+    room_of c.args.file.now.reactors.items c.deref-reactors.result.now c.deref-reactors.ensures.value (have_room_alone (file_tree c.args.file.now) c.requires)
+
+pub numbered_begin-requires-clause-tags : goal.numbered_begin-requires-clause-tags
+numbered_begin-requires-clause-tags c = tags_fit (file_tree c.args.file.now) c.requires
 
 pub origins_of-requires : goal.origins_of-requires
 origins_of-requires c = origins_fit (file_tree c.args.file.now) c.requires
@@ -74,6 +82,8 @@ returns c =
     let links : c.in_ok-links.links.items ≡ map (numbered_link rs) f.links.items = search rules in
     let inputs : c.in_ok-inputs.inputs.items ≡ map (numbered_input rs) f.inputs.items = search rules in
     let outputs : c.in_ok-outputs.outputs.items ≡ map (source_number rs) f.outputs.items = search rules in
+    let begin : option_map begun_of c.in_ok-begin.begin ≡ option_map (numbered_begin rs) F.begin =
+    c.in_ok-begin.ensures ∙ ap (λ (ts : List Reactor). option_map (numbered_begin (map reactor_tree ts)) F.begin) same in
     λ i. record {
       form = c.form_of.ensures i;
       stop = c.stop_of.ensures i;
@@ -88,4 +98,5 @@ returns c =
       links = links i;
       inputs = inputs i;
       outputs = outputs i;
+      begin = begin i;
     }

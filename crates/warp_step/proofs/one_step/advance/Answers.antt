@@ -1,6 +1,8 @@
 -- the parts make the step
-use Rattle.std.proofs.Common.{◌≡◌, length, ap, ◌∙◌, sym}
-use Rattle.warp_body.specs.Presence.{Presence, places_of}
+use Rattle.std.proofs.Common.{◌≡◌, ℕ, length, ap, ◌∙◌, sym}
+use Rattle.warp_tag.specs.Moment.{Moment}
+use Rattle.warp_body.specs.Told.{told_since}
+use Rattle.warp_body.specs.Presence.{Presence, nothing_present, places_of}
 use Rattle.warp_step.specs.Snapshot.{Snapshot}
 use Rattle.warp_step.specs.Step.{Reacting, with_all_wishes, with_links, after_reactions, no_wishes, arrived, without_entries}
 use Rattle.warp_step.specs.inner.Room.{lists_of}
@@ -11,7 +13,10 @@ use Rattle.warp_step.proofs.one_step.advance.Goals as goal
 -- after the clearing nothing of the program is present
 pub take_entries-taken-requires-clause-absent : goal.take_entries-taken-requires-clause-absent
 take_entries-taken-requires-clause-absent c =
-    c.clear.ensures ∙ cleared c.args.program.now c.args.tag (places_of c.args.present.now) c.args.present.now.sources c.requires.places c.requires.sources
+    c.clear.ensures
+    ∙ ap (λ (t : Moment). nothing_present t (places_of c.args.present.now) c.args.present.now.sources)
+    (c.counted.ensures ∙ ap (λ (n : ℕ). told_since n c.args.tag) c.since.ensures.since)
+    ∙ cleared c.args.program.now c.args.tag (places_of c.args.present.now) c.args.present.now.sources c.requires.places c.requires.sources
 
 pub run_reactions-wished-requires-clause-vars : goal.run_reactions-wished-requires-clause-vars
 run_reactions-wished-requires-clause-vars c =
@@ -30,21 +35,21 @@ run_reactions-wished-requires-clause-triggered_turn c = c.arrive.ensures.trigger
 
 -- the places stay the program's
 pub arrive-requires-clause-places : goal.arrive-requires-clause-places
-arrive-requires-clause-places c = c.take_entries-taken.ensures.places ∙ ap places_of c.clear.ensures ∙ cleared_places c.args.tag c.args.present.now ∙ c.requires.places
+arrive-requires-clause-places c = c.take_entries-taken.ensures.places ∙ ap places_of c.clear.ensures ∙ cleared_places c.counted.result c.args.present.now ∙ c.requires.places
 
 pub run_reactions-wished-requires-clause-places : goal.run_reactions-wished-requires-clause-places
 run_reactions-wished-requires-clause-places c =
-    c.arrive.ensures.places ∙ c.take_entries-taken.ensures.places ∙ ap places_of c.clear.ensures ∙ cleared_places c.args.tag c.args.present.now ∙ c.requires.places
+    c.arrive.ensures.places ∙ c.take_entries-taken.ensures.places ∙ ap places_of c.clear.ensures ∙ cleared_places c.counted.result c.args.present.now ∙ c.requires.places
 
 pub enter_later-requires-clause-places : goal.enter_later-requires-clause-places
 enter_later-requires-clause-places c =
     c.run_reactions-wished.ensures.places ∙ c.arrive.ensures.places ∙ c.take_entries-taken.ensures.places ∙ ap places_of c.clear.ensures
-    ∙ cleared_places c.args.tag c.args.present.now ∙ c.requires.places
+    ∙ cleared_places c.counted.result c.args.present.now ∙ c.requires.places
 
 pub returns-clause-places : goal.returns-clause-places
 returns-clause-places c =
     c.run_reactions-wished.ensures.places ∙ c.arrive.ensures.places ∙ c.take_entries-taken.ensures.places ∙ ap places_of c.clear.ensures
-    ∙ cleared_places c.args.tag c.args.present.now
+    ∙ cleared_places c.counted.result c.args.present.now
 
 -- what the reactions make
 abbrev reacting : goal.After-enter_later → Reacting

@@ -8,7 +8,7 @@ use Rattle.clap.specs.Walk.{Row, Text}
 use Rattle.clap.specs.Simple.{App, argument_words, built, help_shape, subcommand_of}
 use Rattle.clap.specs.Faults.{fault_of}
 use Rattle.clap.specs.ValueTests.{is_unsigned_in}
-use Rattle.warp_words.specs.Words.{IsInRange, Task, last_listening_port, most_clients, most_grace, most_hertz, most_inputs, most_seconds, most_sessions, number_up_to, task_found, task_of, warpd_command}
+use Rattle.warp_words.specs.Words.{IsInRange, Task, last_cut, last_listening_port, most_clients, most_grace, most_hertz, most_inputs, most_seconds, most_sessions, number_up_to, task_found, task_of, warpd_command}
 use Rattle.warp_words.specs.Words.{PlaySchedule, RunProgram, ServeProgram}
 use Rattle.clap.specs.Words.{first_of, subcommand_rows_of}
 use Rattle.warp_words.proofs.GivenArguments.{Gives, entered_gives, level_given}
@@ -28,6 +28,20 @@ two_words : (f : Text → Text → Task) (o p : Option Text) → is_some o ≡ t
     → is_some (option_and_then (λ first. option_map (f first) p) o) ≡ true
 two_words f None p there further = there
 two_words f (Some word) p there further = one_word (f word) p further
+
+word_and_number : (f : Text → ℕ → Task) (o : Option Text) (p : Option ℕ) → is_some o ≡ true → is_some p ≡ true
+    → is_some (option_and_then (λ word. option_map (f word) p) o) ≡ true
+word_and_number f None p there further = there
+word_and_number f (Some word) None there further = further
+word_and_number f (Some word) (Some n) there further = refl
+
+four_words : (f : Text → Text → Text → Text → Task) (o p q r : Option Text) → is_some o ≡ true → is_some p ≡ true → is_some q ≡ true → is_some r ≡ true
+    → is_some (option_and_then (λ a. option_and_then (λ b. option_and_then (λ c. option_map (λ d. f a b c d) r) q) p) o) ≡ true
+four_words f None p q r a b c d = a
+four_words f (Some w) None q r a b c d = b
+four_words f (Some w) (Some x) None r a b c d = c
+four_words f (Some w) (Some x) (Some y) None a b c d = d
+four_words f (Some w) (Some x) (Some y) (Some z) a b c d = refl
 
 run_gives : Gives whole HasTask (codes "run")
 run_gives words e = one_word _ _ ((level_given (slice_index_or whole.subs 0 help_shape) (refl, refl) words e).0.there refl)
@@ -70,10 +84,20 @@ journal_gives words e =
     let given = level_given (slice_index_or whole.subs 6 help_shape) (refl, refl) words e in
     two_words _ _ _ (given.0.there refl) (given.1.0.there refl)
 
+state_gives : Gives whole HasTask (codes "state")
+state_gives words e =
+    let given = level_given (slice_index_or whole.subs 7 help_shape) (refl, refl) words e in
+    word_and_number _ _ _ (given.0.there refl) (number_there last_cut _ (given.1.0.there refl) given.1.0.passes)
+
+continue_gives : Gives whole HasTask (codes "continue")
+continue_gives words e =
+    let given = level_given (slice_index_or whole.subs 8 help_shape) (refl, refl) words e in
+    four_words _ _ _ _ _ (given.0.there refl) (given.1.0.there refl) (given.1.1.0.there refl) (given.1.1.1.0.there refl)
+
 has_task : (words : List Text) → fault_of warpd_command words ≡ [] → HasTask (subcommand_of warpd_command words)
 has_task words e =
     entered_gives whole HasTask refl
-    (λ _. run_gives, (λ _. play_gives, (λ _. serve_gives, (λ _. check_gives, (λ _. trace_gives, (λ _. host_gives, (λ _. journal_gives, (λ help. cc, tt))))))))
+    (λ _. run_gives, (λ _. play_gives, (λ _. serve_gives, (λ _. check_gives, (λ _. trace_gives, (λ _. host_gives, (λ _. journal_gives, (λ _. state_gives, (λ _. continue_gives, (λ help. cc, tt))))))))))
     (argument_words warpd_command words) e
 
 pub unreachable-requires : goal.unreachable-requires
@@ -115,6 +139,19 @@ by_two : (f : Text → Text → Task) → ((one other : Text) → IsInRange (f o
 by_two f all None p = tt
 by_two f all (Some one) p = by_one (f one) (all one) p
 
+by_number : (f : Text → ℕ → Task) (most : ℕ) → ((word : Text) (n : ℕ) → IsUpTo most n → IsInRange (f word n)) → (o : Option Text) (p : Option ℕ)
+    → IfSome p (IsUpTo most) → IfSome (option_and_then (λ word. option_map (f word) p) o) IsInRange
+by_number f most all None p range = tt
+by_number f most all (Some word) None range = tt
+by_number f most all (Some word) (Some n) range = all word n range
+
+by_four : (f : Text → Text → Text → Text → Task) → ((a b c d : Text) → IsInRange (f a b c d)) → (o p q r : Option Text)
+    → IfSome (option_and_then (λ a. option_and_then (λ b. option_and_then (λ c. option_map (λ d. f a b c d) r) q) p) o) IsInRange
+by_four f all None p q r = tt
+by_four f all (Some a) None q r = tt
+by_four f all (Some a) (Some b) None r = tt
+by_four f all (Some a) (Some b) (Some c) r = by_one (f a b c) (all a b c) r
+
 either : (b : Bool) (o p : Option Task) → IfSome o IsInRange → IfSome p IsInRange → IfSome (cond b o p) IsInRange
 either true o p one other = one
 either false o p one other = other
@@ -137,7 +174,12 @@ found_in (Some (name, rows)) =
       number_in most_inputs (first_of (codes "inputs-a-tick") rows),
     )) (first_of (codes "PROGRAM") rows))
     (either (bytes_eq name (codes "journal")) _ _
-    (by_two _ (λ one other. tt) (first_of (codes "ACTION") rows) (first_of (codes "FILE") rows)) tt))))))
+    (by_two _ (λ one other. tt) (first_of (codes "ACTION") rows) (first_of (codes "FILE") rows))
+    (either (bytes_eq name (codes "state")) _ _
+    (by_number _ last_cut (λ word n range. range) (first_of (codes "PROGRAM") rows) _ (number_in last_cut (first_of (codes "at") rows)))
+    (either (bytes_eq name (codes "continue")) _ _
+    (by_four _ (λ a b c d. (number_in last_cut (first_of (codes "at") rows), number_in last_cut (first_of (codes "stop") rows)))
+    (first_of (codes "OLD") rows) (first_of (codes "NEW") rows) (first_of (codes "JOURNAL") rows) (first_of (codes "NEXT") rows)) tt))))))))
 
 pub returns-clause-range : goal.returns-clause-range
 returns-clause-range c =

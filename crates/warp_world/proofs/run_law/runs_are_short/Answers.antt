@@ -10,6 +10,6 @@ returns c P E trace fits run =
     let top = top_of P in
     let events = events_in_time P E fits in
     let box : Holds P.stop top P E = record { stop = omega arith; top = omega arith; events = events } in
-    let start = start_inside P.stop top P box.stop in
+    let start = start_inside P.stop top P box.stop box.top in
     let few = rows_left P.stop top P E None (start_state P) trace box refl start run in
     omega arith

@@ -2,6 +2,7 @@
 use Rattle.std.proofs.Common.{◌≡◌, ◌<◌, IsTrue, length, nat_le, ap, ◌∙◌, sym, subst, refl, arith}
 use Rattle.std.proofs.lemmas.List.{length-map, length-replicate}
 use Rattle.warp_tag.specs.Moment.{Moment}
+use Rattle.warp_body.specs.Told.{told_since}
 use Rattle.warp_body.specs.Presence.{nothing_present}
 use Rattle.warp_body.specs.declared.place.Places.{Places}
 use Rattle.warp_body.specs.declared.slots.Slot.{Slot}
@@ -27,6 +28,6 @@ invariant_of-result c =
 pub returns : goal.returns
 returns c =
     let places : Places = record { timers = c.args.places.timers; actions = c.args.places.actions; ports = c.args.places.ports } in
-    none_empty c.beginning_of.result _ _ _ _ _ _ _ c.args.sources.items c.empty.ensures
+    none_empty c.counted.result _ _ _ _ _ _ _ c.args.sources.items c.empty.ensures
     c.in_ok-timers.ensures c.in_ok-actions.ensures c.in_ok-ports.ensures
-    ∙ ap (λ (t : Moment). nothing_present t places c.args.sources.items) c.beginning_of.ensures
+    ∙ ap (λ (t : Moment). nothing_present t places c.args.sources.items) (c.counted.ensures ∙ ap (told_since 0) c.beginning_of.ensures)

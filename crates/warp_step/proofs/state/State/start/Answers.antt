@@ -1,30 +1,28 @@
--- the start state is the program's
-use Rattle.std.proofs.Common.{◌≡◌, ◌≤◌, ℤ, List, [], IsTrue, length, map, rules, ap, subst, sym, ◌∙◌, arith}
-use Rattle.std.proofs.lemmas.List.{length-map}
-use Rattle.warp_tag.specs.Limits.{most_variables, widest}
-use Rattle.warp_step.specs.Program.{Program}
-use Rattle.warp_step.specs.Valid.{is_valid}
-use Rattle.warp_step.specs.declared.parts.Variable.{Variable}
-use Rattle.warp_step.specs.declared.pending.Waiting.{Waiting}
-use Rattle.warp_step.specs.Snapshot.{AreInOrder, Snapshot, IsStateOf, start_state}
+-- it starts as its parts say, and in one of its states
+use Rattle.std.proofs.Common.{◌≡◌, ap, subst, sym, ◌∙◌}
+use Rattle.warp_step.specs.Snapshot.{IsStateOf, Snapshot, start_in, start_state}
+use Rattle.warp_step.proofs.BeginLemmas.{start_as}
 use Rattle.warp_step.proofs.TargetsOfStep.{start_is}
-use Rattle.warp_step.proofs.ValidLemmas.{validity}
 use Rattle.warp_step.proofs.state.State.start.Goals as goal
 
-pub returns-clause-of_program : goal.returns-clause-of_program
-returns-clause-of_program c =
-    let is : c.enter_timers.new.self ≡ start_state c.args.program.now = search rules in
-    subst (λ (s : Snapshot). IsStateOf c.args.program.now s) (sym is) (start_is c.args.program.now)
+pub returns-in-None-clause-state : goal.returns-in-None-clause-state
+returns-in-None-clause-state c =
+    let P = c.args.program.now in
+    c.fresh.ensures ∙ ap (start_in P) c.in-None.ensures ∙ sym (start_as P c.valid.ensures)
 
--- nothing is pending yet, and a valid program has few variables
-new_fits : (P : Program) (items : List Variable) (pending : List Waiting) (values vars : List ℤ) → IsTrue (is_valid P) → pending ≡ [] → vars ≡ values
-    → values ≡ map (λ v. v.start) items → items ≡ P.variables → AreInOrder pending × (length vars ≤ most_variables widest)
-new_fits P items pending values vars valid none taken starts all =
-    let count : length vars ≡ length P.variables = ap length (taken ∙ starts) ∙ length-map items (λ (v : Variable). v.start) ∙ ap length all in
-    (subst AreInOrder (sym none) tt, omega (arith, (validity P valid).limits.variables, count))
+pub returns-in-None-clause-of_program : goal.returns-in-None-clause-of_program
+returns-in-None-clause-of_program c =
+    let P = c.args.program.now in
+    let is : c.fresh.result ≡ start_state P = c.fresh.ensures ∙ ap (start_in P) c.in-None.ensures ∙ sym (start_as P c.valid.ensures) in
+    subst (λ (s : Snapshot). IsStateOf P s) (sym is) (start_is P c.valid.ensures)
 
-pub invariant_of-state : goal.invariant_of-state
-invariant_of-state c = new_fits c.args.program.now c.variables.result.now c.new.result c.in_ok-values.values.items c.from_vec.result c.valid.ensures c.new.ensures c.from_vec.ensures c.in_ok-values.ensures c.variables.ensures
+pub returns-in-Some-clause-state : goal.returns-in-Some-clause-state
+returns-in-Some-clause-state c =
+    let P = c.args.program.now in
+    c.going_on.ensures ∙ ap (start_in P) c.in-Some.ensures ∙ sym (start_as P c.valid.ensures)
 
-pub invariant_of-state-else-begins : goal.invariant_of-state-else-begins
-invariant_of-state-else-begins c = new_fits c.args.program.now c.variables.result.now c.new.result c.in_ok-values.values.items c.from_vec.result c.valid.ensures c.new.ensures c.from_vec.ensures c.in_ok-values.ensures c.variables.ensures
+pub returns-in-Some-clause-of_program : goal.returns-in-Some-clause-of_program
+returns-in-Some-clause-of_program c =
+    let P = c.args.program.now in
+    let is : c.going_on.result ≡ start_state P = c.going_on.ensures ∙ ap (start_in P) c.in-Some.ensures ∙ sym (start_as P c.valid.ensures) in
+    subst (λ (s : Snapshot). IsStateOf P s) (sym is) (start_is P c.valid.ensures)

@@ -1,0 +1,12 @@
+-- the text so far, and then the lines of what is left, is the text before and the lines of all
+use Rattle.std.proofs.Common.{◌≡◌, ◌++◌, drop, map, string_bytes}
+use Rattle.std.specs.List.{flat_map}
+use Rattle.warp_continue.specs.Dropped.{new_variable}
+use Rattle.warp_continue.specs.Kept.{old_of}
+use Rattle.warp_continue.proofs.dropped.add_new_variables.Given as goal
+
+abbrev pub invariant-loop-variable : goal.invariant-loop-variable
+invariant-loop-variable l =
+    let line = new_variable (old_of l.old) l.reactor.name in
+    string_bytes l.text ++ flat_map line (drop l.variable-index l.reactor.variables.items)
+    ≡ string_bytes l.fn.text ++ flat_map line l.reactor.variables.items
